@@ -1,0 +1,11 @@
+pub mod Numbers
+pub mod Fields
+pub mod Below
+pub mod Headers
+pub mod Verdict
+pub mod WellFormed
+pub mod BuiltIn
+pub mod Segments
+pub mod Records
+pub mod Tables
+pub mod Symbols
