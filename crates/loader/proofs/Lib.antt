@@ -1,0 +1,3 @@
+pub mod Steps
+pub mod Bytes
+pub mod Placing
