@@ -21,14 +21,16 @@ use Rattle.image.specs.WellFormed.{Segment-fits, Loaded-at, Right-size, Right-
 
 -- each test with what it tells
 decides-fits : (n : ℕ) (h : ProgramHeader) → Decides (segmentFits n h) (Segment-fits n h)
-decides-fits n h =
-    ( λ e. record { inside = λ k. grind (arith, tells); holds = λ k. grind (arith, tells); ends = λ k. grind (arith, tells) },
-      λ f. let i = f .inside in let o = f .holds in let b = f .ends in grind (arith, tells) )
+decides-fits n h = (
+  λ e. record { inside = λ k. grind (arith, tells); holds = λ k. grind (arith, tells); ends = λ k. grind (arith, tells) },
+  λ f. let i = f .inside in let o = f .holds in let b = f .ends in grind (arith, tells),
+)
 
 decides-loaded : (a : ℕ) (h : ProgramHeader) → Decides (covers a h) (Loaded-at h a)
-decides-loaded a h =
-    ( λ e. record { is-load = grind (arith, tells); from = grind (arith, tells); below = grind (arith, tells) },
-      λ f. let k = f .is-load in let p = f .from in let q = f .below in grind (arith, tells) )
+decides-loaded a h = (
+  λ e. record { is-load = grind (arith, tells); from = grind (arith, tells); below = grind (arith, tells) },
+  λ f. let k = f .is-load in let p = f .from in let q = f .below in grind (arith, tells),
+)
 
 all-fit : (s : List ℕ) (n : ℕ) → Decides (every (λ k. segmentFits (length s) (headerAt s k)) n) ((k : ℕ) → k < n → Segment-fits (length s) (headerAt s k))
 unfolding every
@@ -59,7 +61,7 @@ magic-at s e =
     let p4 = and-parts (eqb (getD s 4 0) 1) _ (p3 .1) in
     let p5 = and-parts (eqb (getD s 5 0) 1) _ (p4 .1) in
     below-more _ 6 (below-more _ 5 (below-more _ 4 (below-more _ 3 (below-more _ 2 (below-more _ 1 (below-more _ 0 (below-none _)
-      (eqb-true _ _ (p0 .0))) (eqb-true _ _ (p1 .0))) (eqb-true _ _ (p2 .0))) (eqb-true _ _ (p3 .0))) (eqb-true _ _ (p4 .0))) (eqb-true _ _ (p5 .0))) (eqb-true _ _ (p5 .1))
+    (eqb-true _ _ (p0 .0))) (eqb-true _ _ (p1 .0))) (eqb-true _ _ (p2 .0))) (eqb-true _ _ (p3 .0))) (eqb-true _ _ (p4 .0))) (eqb-true _ _ (p5 .0))) (eqb-true _ _ (p5 .1))
 
 begins : (s : List ℕ) → take 7 s ≡ magic → identified s ≡ true
 begins s e =
@@ -68,30 +70,35 @@ begins s e =
 
 -- the six tests
 decides-size : (s : List ℕ) → Decides (sizeFits s) (Right-size s)
-decides-size s =
-    ( λ e. record { long-enough = grind (arith, tells); short-enough = grind (arith, tells) },
-      λ r. let p = r .long-enough in let q = r .short-enough in grind (arith, tells) )
+decides-size s = (
+  λ e. record { long-enough = grind (arith, tells); short-enough = grind (arith, tells) },
+  λ r. let p = r .long-enough in let q = r .short-enough in grind (arith, tells),
+)
 
 decides-identification : (s : List ℕ) → Decides (identified s) (Right-identification s)
-decides-identification s =
-    ( λ e. let last = magic-at s e 6 (omega arith) in
-        front-is magic s (⊎-elim (λ lt. lt) (λ ge. absurd (omega (arith, last, getD-past s 6 0 ge))) (cases-lt 6 (length s))) (magic-at s e),
-      begins s )
+decides-identification s = (
+  λ e. let last = magic-at s e 6 (omega arith) in
+      front-is magic s (⊎-elim (λ lt. lt) (λ ge. absurd (omega (arith, last, getD-past s 6 0 ge))) (cases-lt 6 (length s))) (magic-at s e),
+  begins s,
+)
 
 decides-kind : (s : List ℕ) → Decides (kindFits s) (Right-kind s)
-decides-kind s =
-    ( λ e. record { executable = grind (arith, tells); risc-v = grind (arith, tells); version = grind (arith, tells); no-flags = grind (arith, tells) },
-      λ r. let p = r .executable in let q = r .risc-v in let v = r .version in let f = r .no-flags in grind (arith, tells) )
+decides-kind s = (
+  λ e. record { executable = grind (arith, tells); risc-v = grind (arith, tells); version = grind (arith, tells); no-flags = grind (arith, tells) },
+  λ r. let p = r .executable in let q = r .risc-v in let v = r .version in let f = r .no-flags in grind (arith, tells),
+)
 
 decides-table : (s : List ℕ) → Decides (tableFits s) (Right-table s)
-decides-table s =
-    ( λ e. record { entry-size = grind (arith, tells); not-empty = grind (arith, tells); not-long = grind (arith, tells); inside = grind (arith, tells) },
-      λ r. let p = r .entry-size in let q = r .not-empty in let v = r .not-long in let f = r .inside in grind (arith, tells) )
+decides-table s = (
+  λ e. record { entry-size = grind (arith, tells); not-empty = grind (arith, tells); not-long = grind (arith, tells); inside = grind (arith, tells) },
+  λ r. let p = r .entry-size in let q = r .not-empty in let v = r .not-long in let f = r .inside in grind (arith, tells),
+)
 
 decides-entry : (s : List ℕ) → Decides (entryFits s) (Right-entry s)
-decides-entry s =
-    ( λ e. let p = and-parts (eqb (entryOf s % 4) 0) _ e in record { aligned = eqb-true (entryOf s % 4) 0 (p .0); loaded = some-load s (entryOf s) (tableCount s) .0 (p .1) },
-      λ r. and-from _ _ (eq-eqb _ _ (r .aligned)) (some-load s (entryOf s) (tableCount s) .1 (r .loaded)) )
+decides-entry s = (
+  λ e. let p = and-parts (eqb (entryOf s % 4) 0) _ e in record { aligned = eqb-true (entryOf s % 4) 0 (p .0); loaded = some-load s (entryOf s) (tableCount s) .0 (p .1) },
+  λ r. and-from _ _ (eq-eqb _ _ (r .aligned)) (some-load s (entryOf s) (tableCount s) .1 (r .loaded)),
+)
 
 -- the number of the first test that fails
 abbrev first : Bool → Bool → Bool → Bool → Bool → Bool → ℕ
@@ -129,7 +136,7 @@ judged s =
     let da = decides-size s in let db = decides-identification s in let dc = decides-kind s in let dd = decides-table s in let de = all-fit s (tableCount s) in let df = decides-entry s in
     record {
       taken = λ h. let p = none a b c d e f h in
-        record { size = da .0 (p .0); identification = db .0 (p .1); kind = dc .0 (p .2); table = dd .0 (p .3); segments = de .0 (p .4); entry = df .0 (p .5) };
+          record { size = da .0 (p .0); identification = db .0 (p .1); kind = dc .0 (p .2); table = dd .0 (p .3); segments = de .0 (p .4); entry = df .0 (p .5) };
       takes = λ w. rw (da .1 (w .size), db .1 (w .identification), dc .1 (w .kind), dd .1 (w .table), de .1 (w .segments), df .1 (w .entry));
       refused-1 = λ h. not-from-decides a da (at-1 a b c d e f h);
       refused-2 = λ h. let p = at-2 a b c d e f h in (da .0 (p .0), not-from-decides b db (p .1));
@@ -137,7 +144,7 @@ judged s =
       refused-4 = λ h. let p = at-4 a b c d e f h in (da .0 (p .0), db .0 (p .1), dc .0 (p .2), not-from-decides d dd (p .3));
       refused-5 = λ h. let p = at-5 a b c d e f h in (da .0 (p .0), db .0 (p .1), dc .0 (p .2), dd .0 (p .3), not-from-decides e de (p .4));
       refused-6 = λ h. let p = at-6 a b c d e f h in (da .0 (p .0), db .0 (p .1), dc .0 (p .2), dd .0 (p .3), de .0 (p .4), not-from-decides f df (p .5));
-      no-other = below a b c d e f
+      no-other = below a b c d e f;
     }
 
 -- the verdict by what each test gave

@@ -31,5 +31,5 @@ taken s e =
     in record {
       sized = let h = p1 .0 in grind (arith, tells);
       table = let h = p4 .0 in grind (arith, tells);
-      parts = λ k h. every-at _ _ k (p5 .0) h
+      parts = λ k h. every-at _ _ k (p5 .0) h;
     }

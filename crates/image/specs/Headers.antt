@@ -23,7 +23,7 @@ headerFrom s p =
       offset = wordAt s (p + 4);
       vaddr = wordAt s (p + 8);
       filesz = wordAt s (p + 16);
-      memsz = wordAt s (p + 20)
+      memsz = wordAt s (p + 20);
     }
 
 -- program header i

@@ -33,8 +33,8 @@ segmentTold (Err e) = refused (refusalNumber e)
 abbrev pub segmentBy : List ℕ → ProgramHeader → SegmentTold
 segmentBy s h =
     cond (eqb (h .kind) 1)
-      (load (part s h) (h .offset) (h .vaddr) (h .memsz))
-      (cond (eqb (h .kind) 4) (note (part s h) (h .offset)) other)
+    (load (part s h) (h .offset) (h .vaddr) (h .memsz))
+    (cond (eqb (h .kind) 4) (note (part s h) (h .offset)) other)
 
 -- segment i of a file; past the table it is refused with 19
 abbrev pub segmentAt : List ℕ → ℕ → SegmentTold

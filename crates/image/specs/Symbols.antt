@@ -30,7 +30,7 @@ sectionFrom s p =
       kind = wordAt s (p + 4);
       offset = wordAt s (p + 16);
       size = wordAt s (p + 20);
-      link = wordAt s (p + 24)
+      link = wordAt s (p + 24);
     }
 
 -- section header i
@@ -89,7 +89,7 @@ abbrev pub symbolRecords : List ℕ → Records
 symbolRecords t =
     record {
       count = length t / 16;
-      at = λ i. record { start = wordAt t (16 * i + 4); size = cond (isFunction (getD t (16 * i + 12) 0)) (wordAt t (16 * i + 8)) 0 }
+      at = λ i. record { start = wordAt t (16 * i + 4); size = cond (isFunction (getD t (16 * i + 12) 0)) (wordAt t (16 * i + 8)) 0 };
     }
 
 -- what is told of a symbol
@@ -105,5 +105,5 @@ symbolTold (Err e) = refused (refusalNumber e)
 abbrev pub symbolAt : List ℕ → List ℕ → ℕ → SymbolTold
 symbolAt t names i =
     cond (ltb i (length t / 16))
-      (found (nameAt names (wordAt t (16 * i))) (wordAt t (16 * i + 4)) (wordAt t (16 * i + 8)) (getD t (16 * i + 12) 0))
-      (refused 19)
+    (found (nameAt names (wordAt t (16 * i))) (wordAt t (16 * i + 4)) (wordAt t (16 * i + 8)) (getD t (16 * i + 12) 0))
+    (refused 19)

@@ -11,5 +11,5 @@ abbrev pub segmentRecords : List ℕ → Records
 segmentRecords s =
     record {
       count = tableCount s;
-      at = λ i. record { start = headerAt s i .vaddr; size = cond (eqb (headerAt s i .kind) 1) (headerAt s i .memsz) 0 }
+      at = λ i. record { start = headerAt s i .vaddr; size = cond (eqb (headerAt s i .kind) 1) (headerAt s i .memsz) 0 };
     }

@@ -31,8 +31,8 @@ inside n h = leb (h .offset + h .filesz) n
 abbrev pub segmentFits : ℕ → ProgramHeader → Bool
 segmentFits n h =
     cond (eqb (h .kind) 1)
-      (inside n h && (leb (h .filesz) (h .memsz) && leb (h .vaddr + h .memsz) (2 ^ 32)))
-      (cond (eqb (h .kind) 4) (inside n h) true)
+    (inside n h && (leb (h .filesz) (h .memsz) && leb (h .vaddr + h .memsz) (2 ^ 32)))
+    (cond (eqb (h .kind) 4) (inside n h) true)
 
 abbrev pub segmentsFit : List ℕ → Bool
 segmentsFit s = every (λ k. segmentFits (length s) (headerAt s k)) (tableCount s)
@@ -51,11 +51,11 @@ entryFits s = eqb (entryOf s % 4) 0 && covered s (entryOf s)
 unfoldable pub verdict : List ℕ → ℕ
 verdict s =
     cond (sizeFits s)
-      (cond (identified s)
-        (cond (kindFits s)
-          (cond (tableFits s)
-            (cond (segmentsFit s) (cond (entryFits s) 0 6) 5)
-            4)
-          3)
-        2)
-      1
+    (cond (identified s)
+    (cond (kindFits s)
+    (cond (tableFits s)
+    (cond (segmentsFit s) (cond (entryFits s) 0 6) 5)
+    4)
+    3)
+    2)
+    1

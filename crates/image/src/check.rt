@@ -12,19 +12,28 @@ use crate::refusal::Refusal;
 
 // The identification: the magic number, 32 bits, little-endian, version 1.
 const MAG0: u8 = 0x7f;
+
 const MAG1: u8 = 0x45;
+
 const MAG2: u8 = 0x4c;
+
 const MAG3: u8 = 0x46;
+
 const CLASS_32: u8 = 1;
+
 const DATA_LITTLE: u8 = 1;
+
 const IDENT_VERSION: u8 = 1;
 
 // The file's kind: executable, RISC-V, version 1.
 const ET_EXEC: u16 = 2;
+
 const EM_RISCV: u16 = 243;
+
 const EV_CURRENT: u32 = 1;
 
 const MAX_FILE: usize = 65_536;
+
 const MAX_SEGMENTS: u16 = 16;
 
 // Whether the file begins as a 32-bit little-endian ELF file does.
@@ -32,7 +41,16 @@ fn identified(bytes: &[u8]) -> bool
     ensures { λ r. ⌜ r ≡ identified (now (bytes .entry)) ⌝ }
 {
     match bytes {
-        [MAG0, MAG1, MAG2, MAG3, CLASS_32, DATA_LITTLE, IDENT_VERSION, _rest @ ..] => true,
+        [
+            MAG0,
+            MAG1,
+            MAG2,
+            MAG3,
+            CLASS_32,
+            DATA_LITTLE,
+            IDENT_VERSION,
+            _rest @ ..,
+        ] => true,
         _ => false,
     }
 }
@@ -53,7 +71,10 @@ fn table_fits(bytes: &[u8]) -> bool
 {
     let count = half(bytes, E_PHNUM);
     let end = word(bytes, E_PHOFF) as usize + 32 * count as usize;
-    half(bytes, E_PHENTSIZE) == PHENTSIZE && count > 0 && count <= MAX_SEGMENTS && end <= bytes.len()
+    half(bytes, E_PHENTSIZE) == PHENTSIZE
+        && count > 0
+        && count <= MAX_SEGMENTS
+        && end <= bytes.len()
 }
 
 fn segments_fit(bytes: &[u8]) -> bool

@@ -7,22 +7,34 @@ use crate::fields::word;
 
 // Places in the file header, by the names that the ELF specification gives them.
 pub(crate) const E_TYPE: usize = 16;
+
 pub(crate) const E_MACHINE: usize = 18;
+
 pub(crate) const E_VERSION: usize = 20;
+
 pub(crate) const E_ENTRY: usize = 24;
+
 pub(crate) const E_PHOFF: usize = 28;
+
 pub(crate) const E_SHOFF: usize = 32;
+
 pub(crate) const E_FLAGS: usize = 36;
+
 pub(crate) const E_PHENTSIZE: usize = 42;
+
 pub(crate) const E_PHNUM: usize = 44;
+
 pub(crate) const E_SHENTSIZE: usize = 46;
+
 pub(crate) const E_SHNUM: usize = 48;
 // its length
 pub(crate) const EHSIZE: usize = 52;
 
 // The length of a program header, and the types that matter here.
 pub(crate) const PHENTSIZE: u16 = 32;
+
 pub(crate) const PT_LOAD: u32 = 1;
+
 pub(crate) const PT_NOTE: u32 = 4;
 
 // What is used of a program header.
@@ -66,7 +78,9 @@ impl ProgramHeader {
     {
         let inside = self.offset as usize + self.filesz as usize <= len;
         match self.kind {
-            PT_LOAD => inside && self.filesz <= self.memsz && self.vaddr as u64 + self.memsz as u64 <= 1 << 32,
+            PT_LOAD => inside
+                && self.filesz <= self.memsz
+                && self.vaddr as u64 + self.memsz as u64 <= 1 << 32,
             PT_NOTE => inside,
             _ => true,
         }
@@ -76,6 +90,8 @@ impl ProgramHeader {
     pub(crate) fn covers(&self, a: u32) -> bool
         ensures { λ r. ⌜ r ≡ covers a (now (self .entry)) ⌝ }
     {
-        self.kind == PT_LOAD && self.vaddr <= a && (a as u64) < self.vaddr as u64 + self.memsz as u64
+        self.kind == PT_LOAD
+            && self.vaddr <= a
+            && (a as u64) < self.vaddr as u64 + self.memsz as u64
     }
 }

@@ -10,15 +10,14 @@ use crate::image::Image;
 use crate::refusal::Refusal;
 
 // The image of a program that sets x1 to 5 and stays: a file header, one program header and two words.
-static BUILT_IN: [u8; 92] = [
-    0x7f, 0x45, 0x4c, 0x46, 1, 1, 1, 0, 0, 0, 0, 0, 0, 0, 0, 0,
-    2, 0, 243, 0, 1, 0, 0, 0, 0, 0, 0, 0x80, 52, 0, 0, 0,
-    0, 0, 0, 0, 0, 0, 0, 0, 52, 0, 32, 0, 1, 0, 40, 0,
-    0, 0, 0, 0,
-    1, 0, 0, 0, 84, 0, 0, 0, 0, 0, 0, 0x80, 0, 0, 0, 0x80,
-    8, 0, 0, 0, 8, 0, 0, 0, 5, 0, 0, 0, 4, 0, 0, 0,
-    0x93, 0, 0x50, 0, 0x6f, 0, 0, 0,
-];
+const BUILT_IN: &[u8; 92] = b"\
+    \x7fELF\x01\x01\x01\x00\x00\x00\x00\x00\x00\x00\x00\x00\
+    \x02\x00\xf3\x00\x01\x00\x00\x00\x00\x00\x00\x80\x34\x00\x00\x00\
+    \x00\x00\x00\x00\x00\x00\x00\x00\x34\x00\x20\x00\x01\x00\x28\x00\
+    \x00\x00\x00\x00\
+    \x01\x00\x00\x00\x54\x00\x00\x00\x00\x00\x00\x80\x00\x00\x00\x80\
+    \x08\x00\x00\x00\x08\x00\x00\x00\x05\x00\x00\x00\x04\x00\x00\x00\
+    \x93\x00\x50\x00\x6f\x00\x00\x00";
 
 // The place of the image in use: the built-in one until a check is taken.
 #[derive(Drop)]
@@ -30,7 +29,9 @@ impl<'a> ImageHolder<'a> {
     pub fn new() -> Self
         ensures { λ r. ⌜ now (r .image .bytes) ≡ builtIn ⌝ }
     {
-        ImageHolder { image: Image::new(&BUILT_IN) }
+        ImageHolder {
+            image: Image::new(BUILT_IN),
+        }
     }
 
     // The image in use.

@@ -10,6 +10,7 @@ use crate::header::E_SHOFF;
 
 // The length of a section header, and the type of a symbol section.
 const SHENTSIZE: u16 = 40;
+
 const SHT_SYMTAB: u32 = 2;
 
 // What is used of a section header.

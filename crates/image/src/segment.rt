@@ -9,8 +9,16 @@ use crate::records::RecordTable;
 #[derive(Clone, Copy)]
 pub enum Segment<'a> {
     // memory of `size` bytes from `address` on: first the bytes, then zeros
-    Load { bytes: &'a [u8], at: usize, address: u32, size: u32 },
-    Note { bytes: &'a [u8], at: usize },
+    Load {
+        bytes: &'a [u8],
+        at: usize,
+        address: u32,
+        size: u32,
+    },
+    Note {
+        bytes: &'a [u8],
+        at: usize,
+    },
     Other,
 }
 
@@ -26,7 +34,14 @@ pub impl<'a> RecordTable for Image<'a> as SegmentTable {
             return Record::NONE;
         }
         let header = self.header(i);
-        let size = if header.kind == PT_LOAD { header.memsz } else { 0 };
-        Record { start: header.vaddr, size }
+        let size = if header.kind == PT_LOAD {
+            header.memsz
+        } else {
+            0
+        };
+        Record {
+            start: header.vaddr,
+            size,
+        }
     }
 }

@@ -58,8 +58,14 @@ impl<'a> Symbols<'a> {
     {
         let bytes = image.bytes();
         match symbol_sections(bytes) {
-            Some((symbols, names)) => Symbols { entries: symbols.part(bytes), names: names.part(bytes) },
-            None => Symbols { entries: &[], names: &[] },
+            Some((symbols, names)) => Symbols {
+                entries: symbols.part(bytes),
+                names: names.part(bytes),
+            },
+            None => Symbols {
+                entries: &[],
+                names: &[],
+            },
         }
     }
 
@@ -92,7 +98,11 @@ pub impl<'a> RecordTable for Symbols<'a> as SymbolTable {
             return Record::NONE;
         }
         let start = word(self.entries, 16 * i + 4);
-        let size = if is_function_info(self.entries[16 * i + 12]) { word(self.entries, 16 * i + 8) } else { 0 };
+        let size = if is_function_info(self.entries[16 * i + 12]) {
+            word(self.entries, 16 * i + 8)
+        } else {
+            0
+        };
         Record { start, size }
     }
 }

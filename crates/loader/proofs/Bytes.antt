@@ -29,10 +29,10 @@ Apart w v k j = j ≢ k → part (patch w k Byte v) j Byte ≡ part w j Byte
 byte-apart : (w v k : ℕ) → k < 4 → (j : ℕ) → j < 4 → Apart w v k j
 byte-apart w v =
     four (λ k. (j : ℕ) → j < 4 → Apart w v k j)
-      (four (Apart w v 0) (λ ne. absurd (ne refl)) (λ ne. omega arith) (λ ne. omega arith) (λ ne. omega arith))
-      (four (Apart w v 1) (λ ne. omega arith) (λ ne. absurd (ne refl)) (λ ne. omega arith) (λ ne. omega arith))
-      (four (Apart w v 2) (λ ne. omega arith) (λ ne. omega arith) (λ ne. absurd (ne refl)) (λ ne. omega arith))
-      (four (Apart w v 3) (λ ne. omega arith) (λ ne. omega arith) (λ ne. omega arith) (λ ne. absurd (ne refl)))
+    (four (Apart w v 0) (λ ne. absurd (ne refl)) (λ ne. omega arith) (λ ne. omega arith) (λ ne. omega arith))
+    (four (Apart w v 1) (λ ne. omega arith) (λ ne. absurd (ne refl)) (λ ne. omega arith) (λ ne. omega arith))
+    (four (Apart w v 2) (λ ne. omega arith) (λ ne. omega arith) (λ ne. absurd (ne refl)) (λ ne. omega arith))
+    (four (Apart w v 3) (λ ne. omega arith) (λ ne. omega arith) (λ ne. omega arith) (λ ne. absurd (ne refl)))
 
 module _ (K : Kind) (rules : Rules K) where
   -- the byte at an address, and whether it lies in a steady word
@@ -62,13 +62,13 @@ module _ (K : Kind) (rules : Rules K) where
     stored-there ok b s ne =
         let f = rules .steady-word-is-fetched m (wordOf b) s in
         ⊎-elim
-          (λ (same : wordOf a ≡ wordOf b).
-            let t : Steady m a = rw same s in
-            let g = rules .store-replaces-its-bytes m a Byte v (f .0) t ok (rw same (f .1)) in
-            byte-of after b _ (stays-steady b s) (rw same at g)
-            ∙ ap Ok (byte-apart (f .0) v (a % 4) (omega arith) (b % 4) (omega arith) (λ e. ne (omega arith)))
-            ∙ sym (byte-of m b (f .0) s (f .1)))
-          (λ other.
-            byte-of after b (f .0) (stays-steady b s) (rules .store-keeps-other-words m a Byte v (wordOf b) s other ∙ f .1)
-            ∙ sym (byte-of m b (f .0) s (f .1)))
-          (cases-eq (wordOf a) (wordOf b))
+        (λ (same : wordOf a ≡ wordOf b).
+        let t : Steady m a = rw same s in
+        let g = rules .store-replaces-its-bytes m a Byte v (f .0) t ok (rw same (f .1)) in
+        byte-of after b _ (stays-steady b s) (rw same at g)
+        ∙ ap Ok (byte-apart (f .0) v (a % 4) (omega arith) (b % 4) (omega arith) (λ e. ne (omega arith)))
+        ∙ sym (byte-of m b (f .0) s (f .1)))
+        (λ other.
+        byte-of after b (f .0) (stays-steady b s) (rules .store-keeps-other-words m a Byte v (wordOf b) s other ∙ f .1)
+        ∙ sym (byte-of m b (f .0) s (f .1)))
+        (cases-eq (wordOf a) (wordOf b))

@@ -25,7 +25,7 @@ use Rattle.loader.proofs.Bytes.{byteAt, Steady, stored-here, stored-there}
 ran : {M : Type 0} (x : Outcome M) (next : M → Outcome M) (m′ : M) → goOn (x .value) (x .next) next ≡ unchanged m′ → (x ≡ unchanged (x .next)) × (next (x .next) ≡ unchanged m′)
 ran x next m′ =
     elim (x .value) as (λ v. goOn v (x .next) next ≡ unchanged m′ → (record { value = v; next = x .next } ≡ unchanged (x .next)) × (next (x .next) ≡ unchanged m′))
-      [ Ok t ↦ λ e. (refl, e) | Err f ↦ λ e. let q = ap (λ y. isOk (y .value)) e in let z : _≡_ {A = ℕ} 0 1 = cc in absurd (omega arith) ]
+    [ Ok t ↦ λ e. (refl, e) | Err f ↦ λ e. let q = ap (λ y. isOk (y .value)) e in let z : _≡_ {A = ℕ} 0 1 = cc in absurd (omega arith) ]
 
 module _ (K : Kind) (rules : Rules K) where
   -- which words are steady stays as it is
@@ -45,7 +45,7 @@ module _ (K : Kind) (rules : Rules K) where
       record {
         steady = λ x. ap (λ w. K .steady w x) (sym q);
         there = λ j h s. absurd (omega arith);
-        elsewhere = λ x s o. ap (λ w. byteAt K rules w x) (sym q)
+        elsewhere = λ x s o. ap (λ w. byteAt K rules w x) (sym q);
       }
   filled t a (suc n) m m′ e =
       let w = fill K t a n m .next in
@@ -58,18 +58,18 @@ module _ (K : Kind) (rules : Rules K) where
       record {
         steady = λ x. ap (λ u. K .steady u x) (sym q) ∙ rules .store-keeps-steady w (a + n) Byte v x ∙ i .steady x;
         there = λ j h s. ap (λ u. byteAt K rules u (a + j)) (sym q) ∙ ⊎-elim
-          (λ (here : j ≡ n). rw here (stored-here K rules w (a + n) v ok (subst (λ k. Steady K rules w (a + k)) here (still (a + j) s))))
-          (λ ne. stored-there K rules w (a + n) v ok (a + j) (still (a + j) s) (λ p. ne (omega arith)) ∙ i .there j (omega arith) s)
-          (cases-eq j n);
+            (λ (here : j ≡ n). rw here (stored-here K rules w (a + n) v ok (subst (λ k. Steady K rules w (a + k)) here (still (a + j) s))))
+            (λ ne. stored-there K rules w (a + n) v ok (a + j) (still (a + j) s) (λ p. ne (omega arith)) ∙ i .there j (omega arith) s)
+            (cases-eq j n);
         elsewhere = λ x s o. ap (λ u. byteAt K rules u x) (sym q)
-          ∙ stored-there K rules w (a + n) v ok x (still x s) (⊎-elim (λ lt p. omega arith) (λ ge p. omega arith) o)
-          ∙ i .elsewhere x s (⊎-elim (λ lt. inl lt) (λ ge. inr (omega arith)) o)
+            ∙ stored-there K rules w (a + n) v ok x (still x s) (⊎-elim (λ lt p. omega arith) (λ ge p. omega arith) o)
+            ∙ i .elsewhere x s (⊎-elim (λ lt. inl lt) (λ ge. inr (omega arith)) o);
       }
 
   -- one segment
   module _ (s : List ℕ) (i : ℕ) where
     segment-filled : (m m′ : K .Meaning) → headerAt s i .kind ≡ 1 → loadSegment K s i m ≡ unchanged m′
-      → Filled (part s (headerAt s i)) (headerAt s i .vaddr) (headerAt s i .memsz) m m′
+        → Filled (part s (headerAt s i)) (headerAt s i .vaddr) (headerAt s i .memsz) m m′
     segment-filled m m′ k e = filled _ _ _ m m′ (sym (cond-true _ _ _ (eq-eqb (headerAt s i .kind) 1 k)) ∙ e)
 
     segment-skipped : (m m′ : K .Meaning) → eqb (headerAt s i .kind) 1 ≡ false → loadSegment K s i m ≡ unchanged m′ → m ≡ m′
@@ -78,12 +78,12 @@ module _ (K : Kind) (rules : Rules K) where
     segment-steady : (m m′ : K .Meaning) → loadSegment K s i m ≡ unchanged m′ → Same-steady m m′
     segment-steady m m′ e x =
         ⊎-elim
-          (λ t. segment-filled m m′ (eqb-true (headerAt s i .kind) 1 t) e .steady x)
-          (λ f. ap (λ w. K .steady w x) (sym (segment-skipped m m′ f e)))
-          (cases-bool (eqb (headerAt s i .kind) 1))
+        (λ t. segment-filled m m′ (eqb-true (headerAt s i .kind) 1 t) e .steady x)
+        (λ f. ap (λ w. K .steady w x) (sym (segment-skipped m m′ f e)))
+        (cases-bool (eqb (headerAt s i .kind) 1))
 
     segment-there : (m m′ : K .Meaning) (a : ℕ) → Steady K rules m a → Loaded-at (headerAt s i) a → loadSegment K s i m ≡ unchanged m′
-      → byteAt K rules m′ a ≡ Ok (getD (part s (headerAt s i)) (a - headerAt s i .vaddr) 0 % 256)
+        → byteAt K rules m′ a ≡ Ok (getD (part s (headerAt s i)) (a - headerAt s i .vaddr) 0 % 256)
     segment-there m m′ a p l e =
         let back : headerAt s i .vaddr + (a - headerAt s i .vaddr) ≡ a = omega (arith, l .from) in
         let f = segment-filled m m′ (l .is-load) e .there (a - headerAt s i .vaddr) (omega (arith, l .from, l .below)) in
@@ -92,13 +92,13 @@ module _ (K : Kind) (rules : Rules K) where
     segment-elsewhere : (m m′ : K .Meaning) (x : ℕ) → Steady K rules m x → (Loaded-at (headerAt s i) x → ⊥) → loadSegment K s i m ≡ unchanged m′ → byteAt K rules m′ x ≡ byteAt K rules m x
     segment-elsewhere m m′ x p none e =
         ⊎-elim
-          (λ t. let k = eqb-true (headerAt s i .kind) 1 t in
-            segment-filled m m′ k e .elsewhere x p
-              (⊎-elim inl
-                (λ ge. ⊎-elim (λ lt. absurd (none record { is-load = k; from = ge; below = lt })) inr (cases-lt x (headerAt s i .vaddr + headerAt s i .memsz)))
-                (cases-lt x (headerAt s i .vaddr))))
-          (λ f. ap (λ w. byteAt K rules w x) (sym (segment-skipped m m′ f e)))
-          (cases-bool (eqb (headerAt s i .kind) 1))
+        (λ t. let k = eqb-true (headerAt s i .kind) 1 t in
+        segment-filled m m′ k e .elsewhere x p
+        (⊎-elim inl
+        (λ ge. ⊎-elim (λ lt. absurd (none record { is-load = k; from = ge; below = lt })) inr (cases-lt x (headerAt s i .vaddr + headerAt s i .memsz)))
+        (cases-lt x (headerAt s i .vaddr))))
+        (λ f. ap (λ w. byteAt K rules w x) (sym (segment-skipped m m′ f e)))
+        (cases-bool (eqb (headerAt s i .kind) 1))
 
   -- the first n segments
   module _ (s : List ℕ) (m : K .Meaning) where
@@ -113,18 +113,18 @@ module _ (K : Kind) (rules : Rules K) where
         segment-steady s n (loaded n .next) m′ (r .1) x ∙ same-steady n (loaded n .next) (r .0) x
 
     covered : (n : ℕ) (m′ : K .Meaning) → loaded n ≡ unchanged m′ → (i a : ℕ) → i < n → Steady K rules m a → Loaded-at (headerAt s i) a
-      → ((k : ℕ) → i < k → k < n → Loaded-at (headerAt s k) a → ⊥)
-      → byteAt K rules m′ a ≡ Ok (getD (part s (headerAt s i)) (a - headerAt s i .vaddr) 0 % 256)
+        → ((k : ℕ) → i < k → k < n → Loaded-at (headerAt s k) a → ⊥)
+        → byteAt K rules m′ a ≡ Ok (getD (part s (headerAt s i)) (a - headerAt s i .vaddr) 0 % 256)
     unfolding steps
     covered zero m′ e i a l p c later = absurd (omega arith)
     covered (suc n) m′ e i a l p c later =
         let r = ran (loaded n) (loadSegment K s n) m′ e in
         let still : Steady K rules (loaded n .next) a = same-steady n (loaded n .next) (r .0) (wordOf a) ∙ p in
         ⊎-elim
-          (λ (q : i ≡ n). segment-there s i (loaded n .next) m′ a still c (subst (λ k. loadSegment K s k (loaded n .next) ≡ unchanged m′) (sym q) (r .1)))
-          (λ ne. segment-elsewhere s n (loaded n .next) m′ a still (later n (omega arith) (omega arith)) (r .1)
-            ∙ covered n (loaded n .next) (r .0) i a (omega arith) p c (λ k b u. later k b (omega arith)))
-          (cases-eq i n)
+        (λ (q : i ≡ n). segment-there s i (loaded n .next) m′ a still c (subst (λ k. loadSegment K s k (loaded n .next) ≡ unchanged m′) (sym q) (r .1)))
+        (λ ne. segment-elsewhere s n (loaded n .next) m′ a still (later n (omega arith) (omega arith)) (r .1)
+        ∙ covered n (loaded n .next) (r .0) i a (omega arith) p c (λ k b u. later k b (omega arith)))
+        (cases-eq i n)
 
     uncovered : (n : ℕ) (m′ : K .Meaning) → loaded n ≡ unchanged m′ → (a : ℕ) → Steady K rules m a → ((k : ℕ) → k < n → Loaded-at (headerAt s k) a → ⊥) → byteAt K rules m′ a ≡ byteAt K rules m a
     unfolding steps
@@ -139,12 +139,12 @@ module _ (K : Kind) (rules : Rules K) where
       let e : loadAll K s m ≡ unchanged m′ = ap (λ x. record { value = x; next = loadAll K s m .next }) (sym ok) ∙ ap unchanged (sym next) in
       record {
         file-bytes = λ i a p l f.
-          let h = headerAt s i in
-          covered s m (tableCount s) m′ e i a (l .among) p (l .covers) (l .none-later)
-          ∙ ap (λ b. Ok (b % 256)) (getD-take (h .filesz) (drop (h .offset) s) (a - h .vaddr) 0 f ∙ getD-drop (h .offset) s (a - h .vaddr) 0);
+            let h = headerAt s i in
+            covered s m (tableCount s) m′ e i a (l .among) p (l .covers) (l .none-later)
+            ∙ ap (λ b. Ok (b % 256)) (getD-take (h .filesz) (drop (h .offset) s) (a - h .vaddr) 0 f ∙ getD-drop (h .offset) s (a - h .vaddr) 0);
         zero-bytes = λ i a p l f.
-          let h = headerAt s i in
-          covered s m (tableCount s) m′ e i a (l .among) p (l .covers) (l .none-later)
-          ∙ ap (λ b. Ok (b % 256)) (getD-past (part s h) (a - h .vaddr) 0 (simp length-take (omega arith)));
-        other-bytes = uncovered s m (tableCount s) m′ e
+            let h = headerAt s i in
+            covered s m (tableCount s) m′ e i a (l .among) p (l .covers) (l .none-later)
+            ∙ ap (λ b. Ok (b % 256)) (getD-past (part s h) (a - h .vaddr) 0 (simp length-take (omega arith)));
+        other-bytes = uncovered s m (tableCount s) m′ e;
       }

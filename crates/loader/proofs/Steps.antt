@@ -33,9 +33,9 @@ module _ {M : Type 0} (f : ℕ → M → Outcome M) (m : M) where
   stopped i zero w e l h = let z : i ≡ 0 = omega arith in rw z at h
   stopped i (suc n) w e l h =
       ⊎-elim
-        (λ lt. ap (λ x. goOn (x .value) (x .next) (f n)) (stopped i n w e (omega arith) h))
-        (λ ge. let z : i ≡ suc n = omega arith in rw z at h)
-        (cases-lt i (suc n))
+      (λ lt. ap (λ x. goOn (x .value) (x .next) (f n)) (stopped i n w e (omega arith) h))
+      (λ ge. let z : i ≡ suc n = omega arith in rw z at h)
+      (cases-lt i (suc n))
 
   pub refused : (i n : ℕ) (w v : M) (e : FaultNumbers) → i + 1 ≤ n → Ran i w → Err e ≡ f i w .value → v ≡ f i w .next → (Err e ≡ steps f m n .value) × (v ≡ steps f m n .next)
   refused i n w v e l r p q =

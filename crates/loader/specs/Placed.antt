@@ -24,8 +24,8 @@ pub record Last-at (s : List ℕ) (i a : ℕ) : Type 0 where
 -- where no segment covers the address it reads as before
 pub record Placed (K : Kind) (s : List ℕ) (m m′ : K .Meaning) : Type 0 where
   pub file-bytes : (i a : ℕ) → K .steady m (wordOf a) ≡ true → Last-at s i a → a - headerAt s i .vaddr < headerAt s i .filesz
-    → K .load m′ a Byte .value ≡ Ok (byteOf s (headerAt s i .offset + (a - headerAt s i .vaddr)))
+      → K .load m′ a Byte .value ≡ Ok (byteOf s (headerAt s i .offset + (a - headerAt s i .vaddr)))
   pub zero-bytes : (i a : ℕ) → K .steady m (wordOf a) ≡ true → Last-at s i a → headerAt s i .filesz ≤ a - headerAt s i .vaddr
-    → K .load m′ a Byte .value ≡ Ok 0
+      → K .load m′ a Byte .value ≡ Ok 0
   pub other-bytes : (a : ℕ) → K .steady m (wordOf a) ≡ true → ((k : ℕ) → k < tableCount s → Loaded-at (headerAt s k) a → ⊥)
-    → K .load m′ a Byte .value ≡ K .load m a Byte .value
+      → K .load m′ a Byte .value ≡ K .load m a Byte .value

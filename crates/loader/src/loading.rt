@@ -5,7 +5,7 @@ ghost use Rattle.loader.specs.Loading.{fill, loadSegment, loadAll};
 ghost use Rattle.loader.specs.Numbers.{loadTold, endsWith};
 ghost use Rattle.loader.specs.Placed.{Placed};
 ghost use Rattle.std.specs.Results.{isOk};
-ghost use lib.ListN.{getD};
+ghost use lib.ListN.{length, getD};
 ghost use mathlib.Core.Bool.{true};
 ghost use mathlib.Core.Path.{_≡_};
 use crate::refusal::LoadRefusal;
@@ -18,7 +18,8 @@ use image::Segment;
 
 // The byte at a place, or 0 past the end.
 fn byte_or_zero(bytes: &[u8], i: usize) -> u8
-    ensures { λ r. ⌜ r ≡ getD (now (bytes .entry)) i 0 ⌝ }
+    ensures inside { λ r. ⌜ (i < length (now (bytes .entry)) → r ≡ getD (now (bytes .entry)) i 0) ⌝ }
+    ensures past { λ r. ⌜ (length (now (bytes .entry)) ≤ i → r ≡ 0) ⌝ }
 {
     if i < bytes.len() { bytes[i] } else { 0 }
 }
@@ -30,7 +31,11 @@ fn fill<B: Bus>(bus: &mut B, address: u32, bytes: &[u8], size: u32) -> Result<()
     ensures next { λ _. ⌜ B·Bus .meaning (now (bus .exit)) ≡ fill (B·Bus .kind) (now (bytes .entry)) address size (B·Bus .meaning (now (bus .entry))) .next ⌝ }
 {
     for i in 0..size {
-        bus.store(address + i, Width::Byte, u32::from(byte_or_zero(bytes, i as usize)))?;
+        bus.store(
+            address + i,
+            Width::Byte,
+            u32::from(byte_or_zero(bytes, i as usize)),
+        )?;
     }
     Ok(())
 }
@@ -42,7 +47,14 @@ fn load_segment<B: Bus>(bus: &mut B, image: &Image, i: usize) -> Result<(), Faul
     ensures next { λ _. ⌜ B·Bus .meaning (now (bus .exit)) ≡ loadSegment (B·Bus .kind) (now (now (image .entry) .bytes)) i (B·Bus .meaning (now (bus .entry))) .next ⌝ }
 {
     match image.segment(i) {
-        Ok(Segment::Load { bytes, at: _, address, size }) => fill(bus, address, bytes, size),
+        Ok(
+            Segment::Load {
+                bytes,
+                at: _,
+                address,
+                size,
+            },
+        ) => fill(bus, address, bytes, size),
         _ => Ok(()),
     }
 }

@@ -62,8 +62,16 @@ impl<'a> Image<'a> {
         let at = header.offset as usize;
         let end = at + header.filesz as usize;
         match header.kind {
-            PT_LOAD => Ok(Segment::Load { bytes: &bytes[at..end], at, address: header.vaddr, size: header.memsz }),
-            PT_NOTE => Ok(Segment::Note { bytes: &bytes[at..end], at }),
+            PT_LOAD => Ok(Segment::Load {
+                bytes: &bytes[at..end],
+                at,
+                address: header.vaddr,
+                size: header.memsz,
+            }),
+            PT_NOTE => Ok(Segment::Note {
+                bytes: &bytes[at..end],
+                at,
+            }),
             _ => Ok(Segment::Other),
         }
     }

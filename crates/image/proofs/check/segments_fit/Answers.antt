@@ -8,7 +8,7 @@ use Rattle.image.proofs.check.segments_fit.Needs as need
 pub returns-then-not-fits : need.returns-then-not-fits
 returns-then-not-fits c =
     every-stops _ _ (c .loop-i .i) (omega arith)
-      (ap (segmentFits (length (c .args .bytes .now))) (sym (c .nth .ensures)) ∙ (sym (c .fits-in-loop-i .ensures) ∙ c .if-not-fits .taken))
+    (ap (segmentFits (length (c .args .bytes .now))) (sym (c .nth .ensures)) ∙ (sym (c .fits-in-loop-i .ensures) ∙ c .if-not-fits .taken))
 
 pub returns : need.returns
 returns c = every-all _ _ (λ k h. c .loop-i .inv k (omega arith))

@@ -13,9 +13,9 @@ use Rattle.image.proofs.symbol.name_from.Needs as need
 drop-cut : (xs : List ℕ) (n m : ℕ) → m ≡ min n (length xs) → drop m xs ≡ drop n xs
 drop-cut xs n m e =
     ⊎-elim
-      (λ l. let s : m ≡ n = omega arith in ap (λ k. drop k xs) s)
-      (λ g. drop-all m xs (omega arith) ∙ sym (drop-all n xs g))
-      (cases-lt n (length xs))
+    (λ l. let s : m ≡ n = omega arith in ap (λ k. drop k xs) s)
+    (λ g. drop-all m xs (omega arith) ∙ sym (drop-all n xs g))
+    (cases-lt n (length xs))
 
 pub returns : need.returns
 returns c =
