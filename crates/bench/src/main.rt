@@ -1,10 +1,11 @@
-// Reads a firmware image from standard input, checks it, and prints what stands in it.
+// Reads a firmware image from standard input, checks it, loads it into the board, and prints what was done.
 mod found;
 mod input;
+mod loaded;
 
-use found::show_found;
 use image::ImageHolder;
 use input::read_image;
+use loaded::show_load;
 use std::error::AnyError;
 use std::io::BufWriter;
 use std::io::Write;
@@ -14,7 +15,10 @@ fn run(rt: &LibcRuntime) -> Result<(), AnyError> {
     let mut out = BufWriter::new(rt.stdout());
     let mut holder = ImageHolder::new();
     match holder.check(&file) {
-        Ok(()) => show_found(&mut out, holder.image())?,
+        Ok(()) => {
+            let image = holder.image();
+            show_load(&mut out, rt.alloc(), image)?;
+        }
         Err(refusal) => {
             let number = refusal.number();
             writeln!(out, "refused {number}")?;

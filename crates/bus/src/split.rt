@@ -2,6 +2,7 @@ ghost use Prim.Native.Nat.{_%_};
 ghost use Rattle.bus.specs.Kind.{wordOf};
 ghost use Rattle.bus.specs.Numbers.{faultNumbers, numbered};
 ghost use Rattle.bus.specs.Split.{deeper, halves, passed, split};
+ghost use lib.Dec.{ltb};
 ghost use mathlib.Core.Path.{_≡_};
 use crate::access::Fault;
 use crate::access::Feed;
@@ -36,6 +37,12 @@ impl<L: Bus, H: Bus> Split<L, H> {
         let Split { low, high, at: _ } = self;
         (low, high)
     }
+
+    fn is_low(&self, address: u32) -> bool
+        ensures { λ r. ⌜ r ≡ ltb address (now (self .entry) .at) ⌝ }
+    {
+        address < self.at
+    }
 }
 
 // The fault as it is seen from above one more split.
@@ -63,7 +70,7 @@ pub impl<L: Bus, H: Bus> Bus for Split<L, H> as SplitBus {
     ghost meaning = { λ s. halves (L·Bus .meaning (s .low)) (H·Bus .meaning (s .high)) (s .at) };
 
     fn fetch(&self, address: u32) -> Result<u32, Fault> {
-        if address < self.at {
+        if self.is_low(address) {
             pass_on(self.low.fetch(address))
         } else {
             pass_on(self.high.fetch(address))
@@ -71,7 +78,7 @@ pub impl<L: Bus, H: Bus> Bus for Split<L, H> as SplitBus {
     }
 
     fn load(&mut self, address: u32, width: Width) -> Result<u32, Fault> {
-        if address < self.at {
+        if self.is_low(address) {
             pass_on(self.low.load(address, width))
         } else {
             pass_on(self.high.load(address, width))
@@ -79,7 +86,7 @@ pub impl<L: Bus, H: Bus> Bus for Split<L, H> as SplitBus {
     }
 
     fn store(&mut self, address: u32, width: Width, value: u32) -> Result<(), Fault> {
-        if address < self.at {
+        if self.is_low(address) {
             pass_on(self.low.store(address, width, value))
         } else {
             pass_on(self.high.store(address, width, value))
@@ -102,7 +109,7 @@ pub impl<L: Bus, H: Bus> Bus for Split<L, H> as SplitBus {
     }
 
     fn steady(&self, address: u32) -> bool {
-        if address < self.at {
+        if self.is_low(address) {
             self.low.steady(address)
         } else {
             self.high.steady(address)

@@ -1,0 +1,3 @@
+mod Memories
+mod SerialPort
+mod Timers

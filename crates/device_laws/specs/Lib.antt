@@ -1,0 +1,5 @@
+pub mod Runs
+pub mod Memories
+pub mod SerialPort
+pub mod Timers
+pub mod Splits

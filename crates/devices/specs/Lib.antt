@@ -1,0 +1,4 @@
+pub mod Device
+pub mod Memory
+pub mod Clint
+pub mod Uart
