@@ -32,7 +32,14 @@ pub fn show_load<W: Write>(out: &mut W, heap: Global, image: &Image) -> Result<(
 
 fn show_placed<W: Write>(out: &mut W, image: &Image) -> io::Result<()> {
     for i in 0..image.segment_count() {
-        if let Ok(Segment::Load { bytes: _, at: _, address, size }) = image.segment(i) {
+        if let Ok(
+            Segment::Load {
+                bytes: _,
+                at: _,
+                address,
+                size,
+            },
+        ) = image.segment(i) {
             writeln!(out, "loaded {size} at {address:08x}")?;
         }
     }

@@ -4,13 +4,13 @@ ghost use Rattle.std.specs.Of.Vec.{vec-items};
 ghost use Rattle.std.specs.Vec.{made};
 ghost use mathlib.Core.Path.{_≡_};
 use bus::Split;
+use bus::SplitBus;
 use devices::Clint;
 use devices::ClintBus;
 use devices::Ram;
 use devices::RamBus;
 use devices::Uart;
 use devices::UartBus;
-use bus::SplitBus;
 use std::alloc::AllocError;
 use std::alloc::Global;
 
@@ -18,8 +18,11 @@ use std::alloc::Global;
 pub type Board = Split<Clint, Split<Uart, Ram>>;
 
 const UART_FROM: u32 = 0x1000_0000;
+
 const RAM_FROM: u32 = 0x8000_0000;
+
 const RAM_BYTES: usize = 65_536;
+
 const CONSOLE_BYTES: usize = 4_096;
 
 fn zeroed(heap: Global, n: usize) -> Result<Vec<u8>, AllocError>

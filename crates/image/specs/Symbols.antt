@@ -2,9 +2,12 @@
 use Prim.Native.Nat.{ℕ, _+_, _*_, _/_, _%_}
 use mathlib.Core.Bool.{Bool, cond, not, _&&_}
 use mathlib.Core.List.{List, []}
+use mathlib.Core.Path.{_≡_}
 use denote.Ref.{now}
 use lib.Dec.{eqb, leb, ltb}
 use lib.ListN.{length, take, drop, getD}
+use Rattle.std.specs.declared.option.Option.{Option}
+use Rattle.std.specs.declared.option.Option.the-variants.{Some, None}
 use Rattle.std.specs.declared.result.Result.{Result}
 use Rattle.std.specs.declared.result.Result.the-variants.{Ok, Err}
 use Rattle.std.specs.shelf.Lists.{leading}
@@ -14,7 +17,7 @@ use Rattle.image.specs.declared.symbol.Symbol.{Symbol}
 use Rattle.image.specs.Below.{least}
 use Rattle.image.specs.Fields.{halfAt, wordAt}
 use Rattle.image.specs.Numbers.{refusalNumber}
-use Rattle.image.specs.Records.{Records}
+use Rattle.image.specs.Records.{Records, Finds}
 
 -- e_shoff and e_shnum
 abbrev pub sectionsPlace : List ℕ → ℕ
@@ -97,8 +100,11 @@ pub data SymbolTold : Type 0 where
   found : (name : List ℕ) (value size info : ℕ) → SymbolTold
   refused : (number : ℕ) → SymbolTold
 
+abbrev pub symbolValues : Symbol → SymbolTold
+symbolValues x = found (now (x .name)) (x .value) (x .size) (x .info)
+
 abbrev pub symbolTold : Result Symbol Refusal → SymbolTold
-symbolTold (Ok x) = found (now (x .name)) (x .value) (x .size) (x .info)
+symbolTold (Ok x) = symbolValues x
 symbolTold (Err e) = refused (refusalNumber e)
 
 -- symbol i; past the table it is refused with 19
@@ -107,3 +113,8 @@ symbolAt t names i =
     cond (ltb i (length t / 16))
     (found (nameAt names (wordAt t (16 * i))) (wordAt t (16 * i + 4)) (wordAt t (16 * i + 8)) (getD t (16 * i + 12) 0))
     (refused 19)
+
+-- the function that holds an address is the symbol that the search finds
+abbrev pub FunctionAt : List ℕ → List ℕ → ℕ → Option Symbol → Type 0
+FunctionAt t names a None = Finds (symbolRecords t) a None
+FunctionAt t names a (Some x) = (i : ℕ) × Finds (symbolRecords t) a (Some i) × (symbolValues x ≡ symbolAt t names i)

@@ -1,5 +1,5 @@
 ghost use Prim.Native.Nat.{_≤_};
-ghost use Rattle.image.specs.Symbols.{hasSymbols, symbolSection, nameSection, entriesOf, namesOf, symbolRecords, symbolTold, symbolAt};
+ghost use Rattle.image.specs.Symbols.{hasSymbols, symbolSection, nameSection, entriesOf, namesOf, symbolRecords, symbolTold, symbolAt, FunctionAt};
 ghost use Rattle.std.specs.declared.option.Option.the-variants.{Some, None};
 ghost use denote.Ref.{now as held};
 ghost use lib.ListN.{length};
@@ -11,6 +11,7 @@ use crate::header::E_SHNUM;
 use crate::image::Image;
 use crate::records::Record;
 use crate::records::RecordTable;
+use crate::records::find;
 use crate::refusal::Refusal;
 use crate::section::Section;
 use crate::section::first_symbol_section;
@@ -83,6 +84,17 @@ impl<'a> Symbols<'a> {
             size: word(self.entries, at + 8),
             info: self.entries[at + 12],
         })
+    }
+
+    // The function that holds an address.
+    pub fn function_at(&self, a: u32) -> Option<Symbol<'a>>
+        ensures { λ r. ⌜ FunctionAt (now (now (self .entry) .entries)) (now (now (self .entry) .names)) a r ⌝ }
+    {
+        let i = find(self, a)?;
+        match self.symbol(i) {
+            Ok(symbol) => Some(symbol),
+            Err(_) => None,
+        }
     }
 }
 
