@@ -1,33 +1,59 @@
-// Reads a firmware image from standard input, checks it, loads it into the board, and prints what was done.
-mod found;
+// Reads a firmware image from standard input, runs it on the board, and prints what came of it.
 mod input;
-mod loaded;
+mod report;
 
+use board::fresh_board;
+use bus::SplitBus;
+use devices::ClintBus;
+use devices::RamBus;
+use devices::UartBus;
+use image::Image;
 use image::ImageHolder;
 use input::read_image;
-use loaded::show_load;
+use loader::load;
+use machine::Plain;
+use report::show_report;
+use std::alloc::Global;
 use std::error::AnyError;
+use std::io;
 use std::io::BufWriter;
 use std::io::Write;
 
-fn run(rt: &LibcRuntime) -> Result<(), AnyError> {
+// The steps that a run may take, and an address that is no pc, so that nothing else stops it.
+const BUDGET: u32 = 1_000_000;
+const NO_STOP: u32 = 1;
+
+fn show_refusal<W: Write>(out: &mut W, number: u8) -> io::Result<()> {
+    writeln!(out, "refused {number}")
+}
+
+// Loads the image into a fresh board, runs it and reports.
+fn show_run<W: Write>(out: &mut W, heap: Global, image: &Image) -> Result<(), AnyError> {
+    let mut board = fresh_board(heap)?;
+    if let Err(refusal) = load(&mut board, image) {
+        show_refusal(out, refusal.number())?;
+        return Ok(());
+    }
+    let mut machine = Plain::new(image.entry(), board);
+    match machine.run(BUDGET, NO_STOP) {
+        Ok(run) => show_report(out, run, machine, image)?,
+        Err(refusal) => show_refusal(out, refusal.number())?,
+    }
+    Ok(())
+}
+
+fn bench(rt: &LibcRuntime) -> Result<(), AnyError> {
     let file = read_image(rt)?;
     let mut out = BufWriter::new(rt.stdout());
     let mut holder = ImageHolder::new();
     match holder.check(&file) {
-        Ok(()) => {
-            let image = holder.image();
-            show_load(&mut out, rt.alloc(), image)?;
-        }
-        Err(refusal) => {
-            let number = refusal.number();
-            writeln!(out, "refused {number}")?;
-        }
+        Ok(()) => show_run(&mut out, rt.alloc(), holder.image())?,
+        Err(refusal) => show_refusal(&mut out, refusal.number())?,
     }
     out.flush()?;
     Ok(())
 }
 
 fn main(rt: LibcRuntime) -> Result<(), AnyError> {
-    rt.report(run(&rt))
+    rt.report(bench(&rt))
 }

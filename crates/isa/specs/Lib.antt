@@ -1,0 +1,5 @@
+pub mod Alu
+pub mod Branch
+pub mod Fields
+pub mod Listing
+pub mod Decode

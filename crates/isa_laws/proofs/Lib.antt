@@ -1,0 +1,11 @@
+pub mod Readings
+pub mod Sums
+pub mod Orders
+pub mod Shifts
+pub mod Products
+pub mod Quotients
+pub mod Results
+pub mod Formats
+pub mod Lines
+pub mod Decodes
+pub mod Encodes
