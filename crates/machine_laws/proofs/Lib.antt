@@ -1,0 +1,4 @@
+pub mod Interrupts
+pub mod Runs
+pub mod Sound
+pub mod Traps

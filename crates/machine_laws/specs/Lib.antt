@@ -1,0 +1,4 @@
+pub mod InterruptLaws
+pub mod RunLaws
+pub mod SoundLaws
+pub mod TrapLaws
