@@ -21,6 +21,7 @@ use std::io::Write;
 
 // The steps that a run may take, and an address that is no pc, so that nothing else stops it.
 const BUDGET: u32 = 1_000_000;
+
 const NO_STOP: u32 = 1;
 
 fn show_refusal<W: Write>(out: &mut W, number: u8) -> io::Result<()> {

@@ -13,7 +13,12 @@ use std::io;
 use std::io::Write;
 
 // The end and the counts, the hart, the trap and the console.
-pub fn show_report<W: Write>(out: &mut W, run: Run<Fetched>, machine: Plain<Board>, image: &Image) -> io::Result<()> {
+pub fn show_report<W: Write>(
+    out: &mut W,
+    run: Run<Fetched>,
+    machine: Plain<Board>,
+    image: &Image,
+) -> io::Result<()> {
     let end = run.end.number();
     let steps = run.steps;
     let fetched = run.words.fetched;

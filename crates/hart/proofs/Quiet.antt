@@ -1,4 +1,4 @@
--- With nothing pending no interrupt is taken. Assumes nothing.
+-- With nothing pending no interrupt is taken.
 use mathlib.Core.Path.{_≡_, refl, _∙_, ap}
 use mathlib.Core.Bool.{Bool, true, false, cond}
 use Prim.Native.Nat.{ℕ}

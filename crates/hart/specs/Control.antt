@@ -1,4 +1,4 @@
--- The control registers: what each reads, and what a write leaves. Assumes nothing.
+-- The control registers: what each reads, and what a write leaves.
 use mathlib.Core.Bool.{Bool, true, false, cond, _&&_}
 use Prim.Native.Nat.{ℕ, _+_, _*_}
 use lib.Bits.{bitAnd}

@@ -1,4 +1,4 @@
--- The exceptions: what mcause and mtval take. Assumes nothing.
+-- The exceptions: what mcause and mtval take.
 use Prim.Native.Nat.{ℕ}
 use Rattle.hart.specs.declared.exception.Exception.{Exception}
 use Rattle.hart.specs.declared.exception.Exception.the-variants.{MisalignedTarget, FetchFault, Illegal, Breakpoint, MisalignedLoad, LoadFault, MisalignedStore, StoreFault, Ecall}

@@ -1,4 +1,4 @@
--- What an instruction does to a hart, and what it asks of the bus: at most one access. Assumes nothing.
+-- What an instruction does to a hart, and what it asks of the bus: at most one access.
 use mathlib.Core.Bool.{Bool, true, false, cond, not, _||_}
 use Prim.Native.Nat.{ℕ, _-_, _*_, _/_, _%_, _^_}
 use lib.Bits.{bitAnd, bitOr}

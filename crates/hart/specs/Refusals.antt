@@ -1,4 +1,4 @@
--- The refused question for a register, by its number. Assumes nothing.
+-- The refused question for a register, by its number.
 use Prim.Native.Nat.{ℕ}
 use Rattle.std.specs.declared.result.Result.{Result}
 use Rattle.std.specs.declared.result.Result.the-variants.{Ok, Err}

@@ -1,4 +1,4 @@
--- What a hart holds. Assumes nothing.
+-- What a hart holds.
 use mathlib.Core.Bool.{cond}
 use mathlib.Core.List.{List}
 use Prim.Native.Nat.{ℕ, _+_, _%_, _^_}

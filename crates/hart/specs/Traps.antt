@@ -1,4 +1,4 @@
--- Traps, interrupts and the return from them. Assumes nothing.
+-- Traps, interrupts and the return from them.
 use mathlib.Core.Bool.{Bool, true, false, cond}
 use Prim.Native.Nat.{ℕ, _+_, _*_, _^_}
 use lib.Bits.{bitAnd}

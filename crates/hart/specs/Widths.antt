@@ -1,4 +1,4 @@
--- The widths of loads and stores, and what a load leaves in its register. Assumes nothing.
+-- The widths of loads and stores, and what a load leaves in its register.
 use Prim.Native.Nat.{ℕ, _%_, _^_}
 use Rattle.bus.specs.declared.access.Width.{Width}
 use Rattle.bus.specs.declared.access.Width.the-variants.{Byte, Half, Word}

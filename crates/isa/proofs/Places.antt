@@ -1,4 +1,4 @@
--- The places of the table hold what the listing tells of a word. Assumes nothing.
+-- The places of the table hold what the listing tells of a word.
 use mathlib.Core.Path.{_≡_, refl, ap, sym, _∙_}
 use mathlib.Core.Bool.{Bool, true, false, _&&_, _||_}
 use mathlib.Core.List.{List, [], _∷_}

@@ -1,4 +1,4 @@
--- What the operations of RV32IM compute: from two words, a word. Assumes nothing.
+-- What the operations of RV32IM compute: from two words, a word.
 use mathlib.Core.Bool.{Bool, cond}
 use Prim.Native.Nat.{ℕ, _+_, _-_, _*_, _/_, _%_, _^_}
 use lib.Bits.{bitAnd, bitOr, bitXor}

@@ -1,4 +1,4 @@
--- When a branch is taken. Assumes nothing.
+-- When a branch is taken.
 use mathlib.Core.Bool.{Bool, not}
 use Prim.Native.Nat.{ℕ}
 use lib.Dec.{eqb, ltb, leb}

@@ -1,4 +1,4 @@
--- The instruction that a word encodes. Assumes nothing.
+-- The instruction that a word encodes.
 use mathlib.Core.Bool.{cond}
 use Prim.Native.Nat.{ℕ}
 use lib.Dec.{eqb}

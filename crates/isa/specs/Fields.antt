@@ -1,4 +1,4 @@
--- The fields of an instruction word, and its immediates by format. Assumes nothing.
+-- The fields of an instruction word, and its immediates by format.
 use mathlib.Core.Bool.{cond}
 use Prim.Native.Nat.{ℕ, _+_, _-_, _*_, _/_, _%_, _^_}
 use lib.Dec.{ltb}

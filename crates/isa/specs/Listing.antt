@@ -1,4 +1,4 @@
--- The listing of RV32I, Zifencei, Zicsr and M, and the kinds that it gives. Assumes nothing.
+-- The listing of RV32I, Zifencei, Zicsr and M, and the kinds that it gives.
 use mathlib.Core.Bool.{Bool, true, cond, _&&_}
 use mathlib.Core.List.{List, [], _∷_}
 use Prim.Native.Nat.{ℕ, _+_, _*_, _/_, _%_}

@@ -1,4 +1,4 @@
--- An encoded instruction decodes to itself. Assumes nothing.
+-- An encoded instruction decodes to itself.
 use mathlib.Core.Path.{_≡_, refl, ap, _∙_}
 use Prim.Native.Nat.{ℕ, _+_, _-_, _%_, _^_, _<_}
 use native.Mathlib.Nat.{mod-eq-of-lt}

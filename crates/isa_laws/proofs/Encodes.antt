@@ -1,4 +1,4 @@
--- A known word is the encoding of what it decodes to, and its operands fit. Assumes nothing.
+-- A known word is the encoding of what it decodes to, and its operands fit.
 use mathlib.Core.Path.{_≡_, refl, sym, ap, _∙_}
 use mathlib.Core.Bool.{true, cond}
 use mathlib.Core.Logic.{⊎-elim}

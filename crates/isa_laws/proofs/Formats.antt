@@ -1,4 +1,4 @@
--- The fields of each format, and a word as the sum of its fields. Assumes nothing.
+-- The fields of each format, and a word as the sum of its fields.
 use mathlib.Core.Path.{_≡_, refl, sym, ap, _∙_}
 use mathlib.Core.Bool.{true, false, cond}
 use mathlib.Core.Logic.{inl, inr, ⊎-elim}

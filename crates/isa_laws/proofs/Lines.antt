@@ -1,4 +1,4 @@
--- The line of the listing that a kind stands on. Assumes nothing.
+-- The line of the listing that a kind stands on.
 use mathlib.Core.Path.{_≡_, refl, sym, subst}
 use mathlib.Core.Bool.{Bool, true, _&&_}
 use mathlib.Core.List.{List, [], _∷_, map}

@@ -1,4 +1,4 @@
--- Comparisons and branch conditions. Assumes nothing.
+-- Comparisons and branch conditions.
 use native.Mathlib.Omega.{arith}
 use Rattle.std.proofs.shelf.Signed.{ints}
 use Rattle.std.proofs.shelf.Ways.{tells}

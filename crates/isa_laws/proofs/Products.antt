@@ -1,4 +1,4 @@
--- The halves of a product make up the product. Assumes nothing.
+-- The halves of a product make up the product.
 use mathlib.Core.Path.{_≡_, ap}
 use Prim.Native.Nat.{ℕ, suc, _+_, _-_, _*_, _/_, _%_, _^_}
 use native.Mathlib.Nat.{div-add-mod'}

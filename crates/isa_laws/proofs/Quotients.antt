@@ -1,4 +1,4 @@
--- Quotients and remainders. Assumes nothing.
+-- Quotients and remainders.
 use mathlib.Core.Path.{_≡_, refl, ap}
 use mathlib.Core.Logic.{⊎-elim}
 use Prim.Native.Nat.{ℕ, zero, suc, _-_, _*_, _/_, _%_, _^_, _<_}

@@ -1,4 +1,4 @@
--- Words read as signed numbers. Assumes nothing.
+-- Words read as signed numbers.
 use mathlib.Core.Path.{_≡_, refl}
 use mathlib.Core.Logic.{⊎-elim}
 use Prim.Native.Nat.{ℕ, zero, suc, _+_, _-_, _*_, _^_, _<_, _≤_}

@@ -1,4 +1,4 @@
--- Every operation gives a word. Assumes nothing.
+-- Every operation gives a word.
 use mathlib.Core.Bool.{Bool, cond}
 use Prim.Native.Nat.{ℕ, suc, _+_, _-_, _*_, _/_, _%_, _^_, _≤_}
 use native.Mathlib.Nat.{div-le-self, mod-le}

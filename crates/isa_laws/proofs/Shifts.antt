@@ -1,4 +1,4 @@
--- Shifts multiply, and divide rounding down. Assumes nothing.
+-- Shifts multiply, and divide rounding down.
 use mathlib.Core.Path.{_≡_}
 use Prim.Native.Nat.{ℕ, _*_, _/_, _%_, _^_, _<_}
 use native.Mathlib.Nat.{div-add-mod', lt-div-mul-add}

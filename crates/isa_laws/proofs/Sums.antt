@@ -1,4 +1,4 @@
--- Sums, and logic bit by bit. Assumes nothing.
+-- Sums, and logic bit by bit.
 use mathlib.Core.Path.{_≡_, refl, ap, sym, _∙_}
 use mathlib.Core.Bool.{Bool, not, _&&_, _||_, Bool·beq}
 use Prim.Native.Nat.{ℕ, zero, suc, _/_, _%_, _^_, _<_, _+_}

@@ -1,4 +1,4 @@
--- Laws of the operations and of the branch conditions, on words a and b. Assumes nothing.
+-- Laws of the operations and of the branch conditions, on words a and b.
 use mathlib.Core.Path.{_≡_}
 use mathlib.Core.Bool.{Bool, not, _&&_, _||_, Bool·beq}
 use Prim.Native.Nat.{ℕ, _+_, _-_, _*_, _/_, _%_, _^_, _<_, _≤_}

@@ -1,4 +1,4 @@
--- The word that encodes an instruction, by the manual's formats. Assumes nothing.
+-- The word that encodes an instruction, by the manual's formats.
 use Prim.Native.Nat.{ℕ, _+_, _*_, _/_, _%_, _^_}
 use Rattle.isa.specs.declared.alu.AluOp.{AluOp}
 use Rattle.isa.specs.declared.alu.AluOp.the-variants.{Add, Sub, Sll, Slt, Sltu, Xor, Srl, Sra, Or, And, Mul, Mulh, Mulhsu, Mulhu, Div, Divu, Rem, Remu}

@@ -1,4 +1,4 @@
--- Encoding and decoding undo one another. Assumes nothing.
+-- Encoding and decoding undo one another.
 use mathlib.Core.Path.{_≡_}
 use mathlib.Core.Bool.{cond}
 use mathlib.Core.Logic.{_⊎_}

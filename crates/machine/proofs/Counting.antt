@@ -1,10 +1,10 @@
--- Counting events. Assumes nothing.
+-- Counting events.
 use mathlib.Core.Path.{_≡_, refl}
 use mathlib.Core.List.{List, [], _∷_, _++_}
 use Prim.Native.Nat.{ℕ, suc, _+_}
 use native.Mathlib.Omega.{arith}
-use Rattle.machine.specs.declared.board.Effect.{Effect}
-use Rattle.machine.specs.declared.board.Effect.the-variants.{Nothing, Stored, Cleared}
+use Rattle.machine.specs.declared.system.Effect.{Effect}
+use Rattle.machine.specs.declared.system.Effect.the-variants.{Nothing, Stored, Cleared}
 use Rattle.machine.specs.Events.{Event, fetched, stored, cleared, ticked, eventsOf, fetches}
 
 pub fetches-++ : (es ds : List Event) → fetches (es ++ ds) ≡ fetches es + fetches ds

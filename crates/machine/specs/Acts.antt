@@ -1,4 +1,4 @@
--- What an instruction, a poke and a feed do on a bus of any kind. Assumes nothing.
+-- What an instruction, a poke and a feed do on a bus of any kind.
 use mathlib.Core.Bool.{cond}
 use Prim.Native.Nat.{ℕ, _%_}
 use lib.Dec.{eqb}
@@ -15,8 +15,8 @@ use Rattle.hart.specs.Execute.{loaded, stored}
 use Rattle.hart.specs.State.{State}
 use Rattle.hart.specs.Widths.{loadWidth}
 use Rattle.machine.specs.declared.answer.Refusal.the-variants as why
-use Rattle.machine.specs.declared.board.Effect.{Effect}
-use Rattle.machine.specs.declared.board.Effect.the-variants as did
+use Rattle.machine.specs.declared.system.Effect.{Effect}
+use Rattle.machine.specs.declared.system.Effect.the-variants as did
 use Rattle.machine.specs.Numbers.{RefusalNumbers, refusalNumbers, refusedByBus}
 
 -- a store has an effect only if the bus took it

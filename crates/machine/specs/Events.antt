@@ -1,8 +1,8 @@
--- What a machine did, the newest first. Assumes nothing.
+-- What a machine did, the newest first.
 use mathlib.Core.List.{List, [], _∷_}
 use Prim.Native.Nat.{ℕ, suc}
-use Rattle.machine.specs.declared.board.Effect.{Effect}
-use Rattle.machine.specs.declared.board.Effect.the-variants.{Nothing, Stored, Cleared}
+use Rattle.machine.specs.declared.system.Effect.{Effect}
+use Rattle.machine.specs.declared.system.Effect.the-variants.{Nothing, Stored, Cleared}
 
 pub data Event : Type 0 where
   -- the word at this address came from the bus

@@ -1,4 +1,4 @@
--- The numbers by which ends and refusals are known outside. Assumes nothing.
+-- The numbers by which ends and refusals are known outside.
 use Prim.Native.Nat.{ℕ}
 use Rattle.std.specs.declared.option.Option.{Option}
 use Rattle.std.specs.declared.option.Option.the-variants.{Some, None}

@@ -1,4 +1,4 @@
--- The plain machine over a bus of any kind. Assumes nothing.
+-- The plain machine over a bus of any kind.
 use mathlib.Core.Bool.{Bool, true, false}
 use mathlib.Core.List.{List, [], _∷_, _++_}
 use Prim.Native.Nat.{ℕ}
@@ -79,4 +79,4 @@ module _ (K : Kind) where
 
   -- what a machine holds, by the meaning of its bus
   abbrev pub plainOf : {B : Type 0} → (B → K .Meaning) → Plain B → PlainState
-  plainOf meaning p = plain (stateOf (p .board .hart)) (meaning (p .board .bus))
+  plainOf meaning p = plain (stateOf (p .system .hart)) (meaning (p .system .bus))

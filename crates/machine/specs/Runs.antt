@@ -1,4 +1,4 @@
--- Runs and calls of a machine, by its step and its pc. Assumes nothing.
+-- Runs and calls of a machine, by its step and its pc.
 use mathlib.Core.Bool.{cond}
 use mathlib.Core.List.{List, [], _∷_, _++_}
 use Prim.Native.Nat.{ℕ, zero, suc, _+_}

@@ -1,7 +1,7 @@
 // A machine: a hart on a bus that it holds, with the calls by which it is run, fed, changed and asked.
 mod answer;
-mod board;
 mod plain;
+mod system;
 
 pub use answer::End;
 pub use answer::Fetched;

@@ -12,7 +12,7 @@ use crate::answer::End;
 use crate::answer::Fetched;
 use crate::answer::Refusal;
 use crate::answer::Run;
-use crate::board::Board;
+use crate::system::System;
 use bus::Bus;
 use hart::RegisterRefusal;
 use hart::Trap;
@@ -20,17 +20,17 @@ use isa::decode::decode;
 
 #[derive(Drop)]
 pub struct Plain<B: Bus> {
-    board: Board<B>,
+    system: System<B>,
 }
 
 impl<B: Bus> Plain<B> {
     // A machine whose hart starts at `entry`, low two bits dropped.
     pub fn new(entry: u32, bus: B) -> Self
         ensures fresh { λ r. ⌜ plainOf kind meaning r ≡ plainFresh kind entry (meaning bus) ⌝ }
-        ensures holds { λ r. ⌜ r .board .bus ≡ bus ⌝ }
+        ensures holds { λ r. ⌜ r .system .bus ≡ bus ⌝ }
     {
         Plain {
-            board: Board::new(entry, bus),
+            system: System::new(entry, bus),
         }
     }
 
@@ -39,13 +39,13 @@ impl<B: Bus> Plain<B> {
         ensures next { λ _. ⌜ plainOf kind meaning (now (self .exit)) ≡ plainInstruction kind (plainOf kind meaning (now (self .entry))) .next ⌝ }
         ensures count { λ r. ⌜ fetches (plainInstruction kind (plainOf kind meaning (now (self .entry))) .events) ≡ flag r ⌝ }
     {
-        match self.board.bus.fetch(self.board.hart.pc()) {
+        match self.system.bus.fetch(self.system.hart.pc()) {
             Ok(word) => {
-                self.board.perform(word, decode(word));
+                self.system.perform(word, decode(word));
                 true
             }
             Err(fault) => {
-                self.board.hart.fail_fetch(fault);
+                self.system.hart.fail_fetch(fault);
                 false
             }
         }
@@ -56,12 +56,12 @@ impl<B: Bus> Plain<B> {
         ensures next { λ _. ⌜ plainOf kind meaning (now (self .exit)) ≡ plainStep kind (plainOf kind meaning (now (self .entry))) .next ⌝ }
         ensures count { λ r. ⌜ fetches (plainStep kind (plainOf kind meaning (now (self .entry))) .events) ≡ flag r ⌝ }
     {
-        let fetched = if self.board.interrupted() {
+        let fetched = if self.system.interrupted() {
             false
         } else {
             self.instruction()
         };
-        self.board.bus.tick();
+        self.system.bus.tick();
         fetched
     }
 
@@ -73,7 +73,7 @@ impl<B: Bus> Plain<B> {
     {
         let mut fetched = 0;
         for steps in 0..budget {
-            if self.board.hart.pc() == stop {
+            if self.system.hart.pc() == stop {
                 return Run {
                     end: End::Stopped,
                     steps,
@@ -106,7 +106,7 @@ impl<B: Bus> Plain<B> {
         ensures answer { λ r. ⌜ told r ≡ plainFeed kind (plainOf kind meaning (now (self .entry))) byte .answer ⌝ }
         ensures next { λ _. ⌜ plainOf kind meaning (now (self .exit)) ≡ plainFeed kind (plainOf kind meaning (now (self .entry))) byte .state ⌝ }
     {
-        self.board.feed(byte)
+        self.system.feed(byte)
     }
 
     // Stores a word.
@@ -114,7 +114,7 @@ impl<B: Bus> Plain<B> {
         ensures answer { λ r. ⌜ told r ≡ plainPoke kind (plainOf kind meaning (now (self .entry))) address value .answer ⌝ }
         ensures next { λ _. ⌜ plainOf kind meaning (now (self .exit)) ≡ plainPoke kind (plainOf kind meaning (now (self .entry))) address value .state ⌝ }
     {
-        self.board.poke(address, value)
+        self.system.poke(address, value)
     }
 
     // Does nothing: this machine keeps no word.
@@ -125,35 +125,35 @@ impl<B: Bus> Plain<B> {
     pub fn register(&self, i: u32) -> Result<u32, RegisterRefusal>
         ensures { λ r. ⌜ registerTold r ≡ registerAnswer i (plainOf kind meaning (now (self .entry)) .hart) ⌝ }
     {
-        self.board.hart.register(i)
+        self.system.hart.register(i)
     }
 
     pub fn pc(&self) -> u32
         ensures { λ r. ⌜ r ≡ plainOf kind meaning (now (self .entry)) .hart .pc ⌝ }
     {
-        self.board.hart.pc()
+        self.system.hart.pc()
     }
 
     // The record of the last trap, if there was one.
     pub fn trap(&self) -> Option<Trap>
         ensures { λ r. ⌜ trapNumbers r ≡ plainOf kind meaning (now (self .entry)) .hart .trap ⌝ }
     {
-        self.board.hart.trap()
+        self.system.hart.trap()
     }
 
     // The byte that the bus sent out as number `index`, from 0.
     pub fn sent(&self, index: usize) -> Option<u8>
         ensures { λ r. ⌜ r ≡ kind .sent (plainOf kind meaning (now (self .entry)) .meaning) index ⌝ }
     {
-        self.board.bus.sent(index)
+        self.system.bus.sent(index)
     }
 
     // Hands the bus back.
     pub fn end(self) -> B
-        ensures { λ r. ⌜ r ≡ self .board .bus ⌝ }
+        ensures { λ r. ⌜ r ≡ self .system .bus ⌝ }
     {
-        let Plain { board } = self;
-        let Board { hart: _, bus } = board;
+        let Plain { system } = self;
+        let System { hart: _, bus } = system;
         bus
     }
 }

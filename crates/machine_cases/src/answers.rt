@@ -12,7 +12,10 @@ fn show_fault<W: Write>(out: &mut W, fault: Fault) -> io::Result<()> {
     let address = fault.address;
     let device = fault.device.number();
     let depth = fault.depth;
-    write!(out, " fault {cause} address {address:08x} device {device} depth {depth}")
+    write!(
+        out,
+        " fault {cause} address {address:08x} device {device} depth {depth}"
+    )
 }
 
 fn show_refusal<W: Write>(out: &mut W, refusal: Refusal) -> io::Result<()> {
@@ -43,7 +46,10 @@ pub fn show_run<W: Write>(out: &mut W, answer: Result<Run<Fetched>, Refusal>) ->
     }
 }
 
-pub fn show_register<W: Write>(out: &mut W, answer: Result<u32, RegisterRefusal>) -> io::Result<()> {
+pub fn show_register<W: Write>(
+    out: &mut W,
+    answer: Result<u32, RegisterRefusal>,
+) -> io::Result<()> {
     match answer {
         Ok(value) => writeln!(out, "holds {value:08x}"),
         Err(refusal) => {

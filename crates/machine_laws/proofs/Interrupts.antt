@@ -1,4 +1,4 @@
--- Interrupts are taken in their order. Assumes nothing.
+-- Interrupts are taken in their order.
 use mathlib.Core.Path.{_≡_, refl, ap, _∙_}
 use mathlib.Core.Bool.{Bool, true, false, cond, _&&_}
 use Prim.Native.Nat.{ℕ, zero, suc, _+_, _*_, _/_, _%_, _^_, _<_}

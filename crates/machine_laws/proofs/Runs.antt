@@ -1,4 +1,4 @@
--- Runs stop at the first step at which they must, and can be cut. Assumes nothing.
+-- Runs stop at the first step at which they must, and can be cut.
 use mathlib.Core.Path.{_≡_, refl, sym, ap, _∙_}
 use mathlib.Core.Bool.{Bool, true, false}
 use mathlib.Core.List.{List, [], _∷_, _++_, append-assoc, append-nil}

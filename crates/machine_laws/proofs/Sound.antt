@@ -1,4 +1,4 @@
--- x0 stays 0, and pc a multiple of 4. Assumes nothing.
+-- x0 stays 0, and pc a multiple of 4.
 use mathlib.Core.Path.{_≡_, refl, sym, ap, _∙_}
 use mathlib.Core.Bool.{Bool, true, false, not, _||_}
 use mathlib.Core.List.{List}

@@ -1,4 +1,4 @@
--- A trap changes nothing else, and MRET undoes it. Assumes nothing.
+-- A trap changes nothing else, and MRET undoes it.
 use mathlib.Core.Path.{_≡_, refl, ap, _∙_}
 use mathlib.Core.Bool.{Bool, true, false, not, _||_}
 use mathlib.Core.Logic.{_⊎_, inl, inr}

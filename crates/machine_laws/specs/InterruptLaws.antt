@@ -1,4 +1,4 @@
--- When an interrupt is taken, and which. Assumes nothing.
+-- When an interrupt is taken, and which.
 use mathlib.Core.Path.{_≡_}
 use mathlib.Core.Bool.{Bool, true, false}
 use Prim.Native.Nat.{ℕ, _+_, _/_, _%_, _^_}

@@ -1,4 +1,4 @@
--- Runs of the plain machine: where they stop, and that they can be cut. Assumes nothing.
+-- Runs of the plain machine: where they stop, and that they can be cut.
 use mathlib.Core.Path.{_≡_}
 use mathlib.Core.Logic.{_⊎_}
 use Prim.Native.Nat.{ℕ, zero, suc, _+_, _≤_, _<_}

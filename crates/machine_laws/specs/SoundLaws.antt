@@ -1,4 +1,4 @@
--- What holds of every hart, and is kept by every step. Assumes nothing.
+-- What holds of every hart, and is kept by every step.
 use mathlib.Core.Path.{_≡_}
 use Prim.Native.Nat.{ℕ, _%_}
 use lib.ListN.{getD}

@@ -1,4 +1,4 @@
--- What a trap leaves, and what the return from it restores. Assumes nothing.
+-- What a trap leaves, and what the return from it restores.
 use mathlib.Core.Path.{_≡_}
 use mathlib.Core.Bool.{true, false}
 use mathlib.Core.Logic.{_⊎_}

@@ -13,7 +13,9 @@ use std::error::AnyError;
 use std::time::Instant;
 
 const BASE: u32 = 0x8000_0000;
+
 const BUDGET: u32 = 1_000_000;
+
 const NO_STOP: u32 = 1;
 
 // Adds 0, 1, 2 and so on to the word at x5, and stores each fourth count beside it.

@@ -20,7 +20,7 @@ pub returns-then-pc-stop : need.returns-then-pc-stop
 returns-then-pc-stop g c =
     let k = g .B·Bus .kind in
     let i = c .loop-steps .inv in
-    let e : c .loop-steps .self .board .hart .pc ≡ c .args .stop = sym (c .pc .ensures) ∙ c .if-pc-stop .taken in
+    let e : c .loop-steps .self .system .hart .pc ≡ c .args .stop = sym (c .pc .ensures) ∙ c .if-pc-stop .taken in
     let q = stops (pcOf k) (plainStep k) (c .args .budget) (c .args .stop) _ (c .loop-steps .steps) (i .0) _ (c .loop-steps-test .taken) e (i .3) in
     record { answer = ap (λ (n : ℕ). numbersOf Stopped (c .loop-steps .steps) record { fetched = n }) (sym (i .1)) ∙ sym (ap (λ z. runOf (fetchedIn k) z) q); next = sym (ap (λ z. z .next) q) }
 
@@ -29,7 +29,7 @@ loop-steps-again g c =
     let k = g .B·Bus .kind in
     let i = c .loop-steps .inv in
     let s = plainOf k (g .B·Bus .meaning) (c .loop-steps .self) in
-    let ne : c .loop-steps .self .board .hart .pc ≡ c .args .stop → ⊥ = λ e. c .if-pc-stop .left (c .pc .ensures ∙ e) in
+    let ne : c .loop-steps .self .system .hart .pc ≡ c .args .stop → ⊥ = λ e. c .if-pc-stop .left (c .pc .ensures ∙ e) in
     let h = more (pcOf k) (plainStep k) (c .args .budget) (c .args .stop) _ (c .loop-steps .steps) (i .0) s _ (c .loop-steps-test .taken) ne (c .step .ensures .next) (i .3) in
     let few : c .if-step .fetched ≤ c .loop-steps .steps + 1 =
     elim (c .if-step .came) [ then-step w ↦ omega (arith, w .fetched-is, i .2) | else-step w ↦ omega (arith, w .fetched-is, i .2) ] in

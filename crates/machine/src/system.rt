@@ -17,7 +17,7 @@ use hart::load_width;
 use isa::instruction::Instruction;
 
 #[derive(Drop)]
-pub struct Board<B: Bus> {
+pub struct System<B: Bus> {
     pub(crate) hart: Hart,
     pub(crate) bus: B,
 }
@@ -41,12 +41,12 @@ fn effect_of(address: u32, answer: Result<(), Fault>) -> Effect
     }
 }
 
-impl<B: Bus> Board<B> {
+impl<B: Bus> System<B> {
     pub(crate) fn new(entry: u32, bus: B) -> Self
         ensures hart { λ r. ⌜ stateOf (r .hart) ≡ fresh entry ⌝ }
         ensures bus { λ r. ⌜ r .bus ≡ bus ⌝ }
     {
-        Board {
+        System {
             hart: Hart::new(entry),
             bus,
         }
