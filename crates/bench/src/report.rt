@@ -13,7 +13,7 @@ use std::io;
 use std::io::Write;
 
 // The end and the counts, the hart, the trap and the console.
-pub fn show_report<W: Write>(
+pub(crate) fn show_report<W: Write>(
     out: &mut W,
     run: Run<Fetched>,
     machine: Plain<Board>,

@@ -103,7 +103,7 @@ fn called_by(name: &str, numbers: &Numbers) -> Option<Call> {
 }
 
 // The meaning of a line, or none.
-pub fn parse(text: &str) -> Option<Line> {
+pub(crate) fn parse(text: &str) -> Option<Line> {
     let mut words = text.split_whitespace();
     let Some(name) = words.next() else {
         return Some(Line::Blank);

@@ -53,7 +53,7 @@ fn new_board(heap: Global) -> Result<Board, AllocError> {
 }
 
 impl Target {
-    pub fn new(heap: Global, make: Make) -> Result<Target, AllocError> {
+    pub(crate) fn new(heap: Global, make: Make) -> Result<Target, AllocError> {
         match make {
             Make::Ram(base, len) => Ok(Target::Ram(Ram::new(base, counted(heap, len)?))),
             Make::Rom(base, len) => Ok(Target::Rom(Rom::new(base, counted(heap, len)?))),
@@ -64,7 +64,7 @@ impl Target {
     }
 
     // The bytes that the bus hands back at its end.
-    pub fn into_bytes(self, heap: Global) -> Vec<u8> {
+    pub(crate) fn into_bytes(self, heap: Global) -> Vec<u8> {
         match self {
             Target::Ram(ram) => ram.into_bytes(),
             Target::Rom(rom) => rom.into_bytes(),
@@ -78,7 +78,7 @@ impl Target {
         }
     }
 
-    pub fn call(&mut self, rt: &impl Print, call: Call) -> io::Result<()> {
+    pub(crate) fn call(&mut self, rt: &impl Print, call: Call) -> io::Result<()> {
         match self {
             Target::Ram(ram) => make_call(rt, ram, call),
             Target::Rom(rom) => make_call(rt, rom, call),

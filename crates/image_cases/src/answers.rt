@@ -15,7 +15,7 @@ fn show_refusal<W: Write>(out: &mut W, refusal: Refusal) -> io::Result<()> {
 }
 
 // The check's answer, and the length of the image then in use.
-pub fn show_check<W: Write>(
+pub(crate) fn show_check<W: Write>(
     out: &mut W,
     checked: Result<(), Refusal>,
     image: &Image,
@@ -28,12 +28,12 @@ pub fn show_check<W: Write>(
     writeln!(out, "in use {len}")
 }
 
-pub fn show_entry<W: Write>(out: &mut W, image: &Image) -> io::Result<()> {
+pub(crate) fn show_entry<W: Write>(out: &mut W, image: &Image) -> io::Result<()> {
     let entry = image.entry();
     writeln!(out, "entry {entry:08x}")
 }
 
-pub fn show_segment<W: Write>(out: &mut W, image: &Image, i: usize) -> io::Result<()> {
+pub(crate) fn show_segment<W: Write>(out: &mut W, image: &Image, i: usize) -> io::Result<()> {
     match image.segment(i) {
         Ok(
             Segment::Load {
@@ -55,7 +55,7 @@ pub fn show_segment<W: Write>(out: &mut W, image: &Image, i: usize) -> io::Resul
     }
 }
 
-pub fn show_symbol<W: Write>(out: &mut W, image: &Image, i: usize) -> io::Result<()> {
+pub(crate) fn show_symbol<W: Write>(out: &mut W, image: &Image, i: usize) -> io::Result<()> {
     match Symbols::of(image).symbol(i) {
         Ok(symbol) => {
             let value = symbol.value;
@@ -76,10 +76,10 @@ fn show_found<W: Write>(out: &mut W, found: Option<usize>) -> io::Result<()> {
     }
 }
 
-pub fn show_segment_at<W: Write>(out: &mut W, image: &Image, a: u32) -> io::Result<()> {
+pub(crate) fn show_segment_at<W: Write>(out: &mut W, image: &Image, a: u32) -> io::Result<()> {
     show_found(out, find(image, a))
 }
 
-pub fn show_function_at<W: Write>(out: &mut W, image: &Image, a: u32) -> io::Result<()> {
+pub(crate) fn show_function_at<W: Write>(out: &mut W, image: &Image, a: u32) -> io::Result<()> {
     show_found(out, find(&Symbols::of(image), a))
 }

@@ -29,7 +29,7 @@ fn number(word: &str) -> Option<u32> {
 }
 
 impl Command {
-    pub fn parse(line: &str) -> Option<Command> {
+    pub(crate) fn parse(line: &str) -> Option<Command> {
         let mut words = line.split_whitespace();
         let verb = words.next()?;
         let Some(first) = words.next() else {

@@ -27,14 +27,17 @@ fn show_refusal<W: Write>(out: &mut W, refusal: Refusal) -> io::Result<()> {
     writeln!(out, "")
 }
 
-pub fn show_done<W: Write>(out: &mut W, answer: Result<(), Refusal>) -> io::Result<()> {
+pub(crate) fn show_done<W: Write>(out: &mut W, answer: Result<(), Refusal>) -> io::Result<()> {
     match answer {
         Ok(()) => writeln!(out, "done"),
         Err(refusal) => show_refusal(out, refusal),
     }
 }
 
-pub fn show_run<W: Write>(out: &mut W, answer: Result<Run<Fetched>, Refusal>) -> io::Result<()> {
+pub(crate) fn show_run<W: Write>(
+    out: &mut W,
+    answer: Result<Run<Fetched>, Refusal>,
+) -> io::Result<()> {
     match answer {
         Ok(run) => {
             let end = run.end.number();
@@ -46,7 +49,7 @@ pub fn show_run<W: Write>(out: &mut W, answer: Result<Run<Fetched>, Refusal>) ->
     }
 }
 
-pub fn show_register<W: Write>(
+pub(crate) fn show_register<W: Write>(
     out: &mut W,
     answer: Result<u32, RegisterRefusal>,
 ) -> io::Result<()> {
@@ -59,7 +62,7 @@ pub fn show_register<W: Write>(
     }
 }
 
-pub fn show_trap<W: Write>(out: &mut W, trap: Option<Trap>) -> io::Result<()> {
+pub(crate) fn show_trap<W: Write>(out: &mut W, trap: Option<Trap>) -> io::Result<()> {
     let Some(trap) = trap else {
         return writeln!(out, "none");
     };
@@ -73,7 +76,7 @@ pub fn show_trap<W: Write>(out: &mut W, trap: Option<Trap>) -> io::Result<()> {
     writeln!(out, "")
 }
 
-pub fn show_sent<W: Write>(out: &mut W, sent: Option<u8>) -> io::Result<()> {
+pub(crate) fn show_sent<W: Write>(out: &mut W, sent: Option<u8>) -> io::Result<()> {
     match sent {
         Some(byte) => writeln!(out, "byte {byte:02x}"),
         None => writeln!(out, "none"),

@@ -16,7 +16,7 @@ pub enum Call {
 }
 
 impl Call {
-    pub fn parse(line: &str) -> Option<Call> {
+    pub(crate) fn parse(line: &str) -> Option<Call> {
         let mut words = line.split_whitespace();
         let verb = words.next()?;
         let Some(first) = words.next() else {
