@@ -34,6 +34,10 @@ Outcome = Result Request Exception × State
 abbrev pub goes : State → Outcome
 goes s = (Ok ask.Nothing, s)
 
+-- the same, and words fetched earlier are to be forgotten
+abbrev pub fences : State → Outcome
+fences s = (Ok ask.Fence, s)
+
 -- an exception leaves the state to the trap
 abbrev pub raises : Exception → State → Outcome
 raises e s = (Err e, s)
@@ -97,7 +101,7 @@ executed w (Op o rd rs1 rs2) s = goes (next (put rd (result o (read s rs1) (read
 executed w (Csr o rd rs1 n) s = csrDone w o rd (read s rs1) (not (eqb rs1 0) || writesAlways o) n s
 executed w (CsrImmediate o rd v n) s = csrDone w o rd v (not (eqb v 0) || writesAlways o) n s
 executed w Fence s = goes (next s)
-executed w FenceI s = (Ok ask.Fence, next s)
+executed w FenceI s = fences (next s)
 executed w Wfi s = goes (next s)
 executed w Ecall s = raises ex.Ecall s
 executed w Ebreak s = raises ex.Breakpoint s

@@ -1,8 +1,11 @@
 // What each instruction does to a hart.
 ghost use Rattle.bus.specs.Numbers.{faultNumbers, numbered};
-ghost use Rattle.hart.specs.Execute.{askedLoad, askedStore, begun, branched, combined, csrDone, executed, goes, linked, loaded, stored, unfetched, writesAlways};
-ghost use Rattle.hart.specs.State.{next, put, stateOf};
+ghost use Rattle.hart.specs.Execute.{askedLoad, askedStore, begun, branched, combined, csrDone, executed, fences, goes, linked, loaded, stored, unfetched, writesAlways};
+ghost use Rattle.hart.specs.State.{next, plus, put, read, stateOf};
+ghost use Rattle.hart.specs.Traps.{returned};
+ghost use mathlib.Core.Bool.{_||_};
 ghost use mathlib.Core.Path.{_≡_};
+use crate::control::Status;
 use crate::exception::Exception;
 use crate::hart::Hart;
 use crate::request::Request;
@@ -80,6 +83,26 @@ impl Hart {
         Ok(Request::Nothing)
     }
 
+    // The same, and asks that words fetched earlier be forgotten.
+    fn pass_fence(&mut self) -> Outcome
+        ensures { λ r. ⌜ fences (next (stateOf (now (self .entry)))) ≡ (r, stateOf (now (self .exit))) ⌝ }
+    {
+        self.advance();
+        Ok(Request::Fence)
+    }
+
+    // MRET.
+    fn leave_trap(&mut self) -> Outcome
+        ensures { λ r. ⌜ goes (returned (stateOf (now (self .entry)))) ≡ (r, stateOf (now (self .exit))) ⌝ }
+    {
+        self.control.status = Status {
+            mie: self.control.status.mpie,
+            mpie: true,
+        };
+        self.pc = self.control.saved.mepc / 4 * 4;
+        Ok(Request::Nothing)
+    }
+
     // A branch, taken or not.
     fn branch(&mut self, taken: bool, target: u32) -> Outcome
         ensures { λ r. ⌜ branched taken target (stateOf (now (self .entry))) ≡ (r, stateOf (now (self .exit))) ⌝ }
@@ -107,21 +130,29 @@ impl Hart {
         Ok(Request::Nothing)
     }
 
-    // Reads a control register into rd, and writes it from a source if `writes` says so.
+    // A register plus an immediate.
+    fn sum(&self, rs1: u8, imm: u32) -> u32
+        ensures { λ r. ⌜ r ≡ plus (read (stateOf (now (self .entry))) rs1) imm ⌝ }
+    {
+        self.get(rs1).wrapping_add(imm)
+    }
+
+    // Reads a control register into rd, and writes it from a source, unless that is x0 or 0 and the operation heeds it.
     fn csr(
         &mut self,
         word: u32,
         op: CsrOp,
         rd: u8,
         source: u32,
-        writes: bool,
+        named: bool,
         number: u16,
     ) -> Outcome
-        ensures { λ r. ⌜ csrDone word op rd source writes number (stateOf (now (self .entry))) ≡ (r, stateOf (now (self .exit))) ⌝ }
+        ensures { λ r. ⌜ csrDone word op rd source (named || writesAlways op) number (stateOf (now (self .entry))) ≡ (r, stateOf (now (self .exit))) ⌝ }
     {
         let Some(old) = self.control.read(number) else {
             return Err(Exception::Illegal(word));
         };
+        let writes = named || always_writes(op);
         if writes && !self.control.write(number, combine(op, old, source)) {
             return Err(Exception::Illegal(word));
         }
@@ -135,19 +166,14 @@ impl Hart {
             Instruction::Lui { rd, imm } => self.finish(rd, imm),
             Instruction::Auipc { rd, imm } => self.finish(rd, self.pc.wrapping_add(imm)),
             Instruction::Jal { rd, imm } => self.link(rd, self.pc.wrapping_add(imm)),
-            Instruction::Jalr { rd, rs1, imm } => {
-                self.link(rd, self.get(rs1).wrapping_add(imm) / 2 * 2)
-            }
+            Instruction::Jalr { rd, rs1, imm } => self.link(rd, self.sum(rs1, imm) / 2 * 2),
             Instruction::Branch { op, rs1, rs2, imm } => {
                 let taken = op.holds(self.get(rs1), self.get(rs2));
                 self.branch(taken, self.pc.wrapping_add(imm))
             }
-            Instruction::Load { op, rd, rs1, imm } => {
-                ask_load(op, rd, self.get(rs1).wrapping_add(imm))
-            }
+            Instruction::Load { op, rd, rs1, imm } => ask_load(op, rd, self.sum(rs1, imm)),
             Instruction::Store { op, rs1, rs2, imm } => {
-                let address = self.get(rs1).wrapping_add(imm);
-                ask_store(store_width(op), address, self.get(rs2))
+                ask_store(store_width(op), self.sum(rs1, imm), self.get(rs2))
             }
             Instruction::Immediate { op, rd, rs1, imm } => {
                 self.finish(rd, op.apply(self.get(rs1), imm))
@@ -156,24 +182,16 @@ impl Hart {
                 self.finish(rd, op.apply(self.get(rs1), self.get(rs2)))
             }
             Instruction::Csr { op, rd, rs1, csr } => {
-                let writes = rs1 != 0 || always_writes(op);
-                self.csr(word, op, rd, self.get(rs1), writes, csr)
+                self.csr(word, op, rd, self.get(rs1), rs1 != 0, csr)
             }
             Instruction::CsrImmediate { op, rd, imm, csr } => {
-                let writes = imm != 0 || always_writes(op);
-                self.csr(word, op, rd, u32::from(imm), writes, csr)
+                self.csr(word, op, rd, u32::from(imm), imm != 0, csr)
             }
             Instruction::Fence | Instruction::Wfi => self.pass(),
-            Instruction::FenceI => {
-                self.advance();
-                Ok(Request::Fence)
-            }
+            Instruction::FenceI => self.pass_fence(),
             Instruction::Ecall => Err(Exception::Ecall),
             Instruction::Ebreak => Err(Exception::Breakpoint),
-            Instruction::Mret => {
-                self.leave_trap();
-                Ok(Request::Nothing)
-            }
+            Instruction::Mret => self.leave_trap(),
             Instruction::Unknown => Err(Exception::Illegal(word)),
         }
     }
