@@ -1,17 +1,12 @@
 -- With nothing pending no interrupt is taken.
 use mathlib.Core.Path.{_≡_, refl, _∙_, ap}
-use mathlib.Core.Bool.{Bool, true, false, cond}
+use mathlib.Core.Bool.{Bool, true, false}
 use Prim.Native.Nat.{ℕ}
 use lib.Bits.{bitAnd}
 use Rattle.std.specs.declared.option.Option.{Option}
-use Rattle.std.specs.declared.option.Option.the-variants.{Some, None}
-use Rattle.hart.specs.Control.{bit}
+use Rattle.std.specs.declared.option.Option.the-variants.{None}
 use Rattle.hart.specs.State.{State}
-use Rattle.hart.specs.Traps.{taking, interrupted}
-
--- the choice among the interrupts that are ready
-abbrev chosen : Bool → ℕ → Option ℕ
-chosen on ready = cond on (cond (bit 11 ready) (Some 11) (cond (bit 3 ready) (Some 3) (cond (bit 7 ready) (Some 7) None))) None
+use Rattle.hart.specs.Traps.{chosen, taking, interrupted}
 
 none-ready : (on : Bool) → chosen on 0 ≡ None
 none-ready true = refl

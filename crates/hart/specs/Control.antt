@@ -24,25 +24,31 @@ status i p = record { mie = i; mpie = p }
 abbrev pub saved : (mepc mcause mtval : ℕ) → Saved
 saved e c v = record { mepc = e; mcause = c; mtval = v }
 
+-- the control registers of a fresh hart
 abbrev pub freshControl : Control
 freshControl = record { status = status false false; enabled = 0; pending = 0; mtvec = 0; mscratch = 0; saved = saved 0 0 0 }
 
--- the registers with one of them replaced
+-- the control registers with another mstatus
 abbrev pub withStatus : Status → Control → Control
 withStatus v c = record { status = v; enabled = c .enabled; pending = c .pending; mtvec = c .mtvec; mscratch = c .mscratch; saved = c .saved }
 
+-- with another mie
 abbrev pub withEnabled : ℕ → Control → Control
 withEnabled v c = record { status = c .status; enabled = v; pending = c .pending; mtvec = c .mtvec; mscratch = c .mscratch; saved = c .saved }
 
+-- with another mip
 abbrev pub withPending : ℕ → Control → Control
 withPending v c = record { status = c .status; enabled = c .enabled; pending = v; mtvec = c .mtvec; mscratch = c .mscratch; saved = c .saved }
 
+-- with another mtvec
 abbrev pub withMtvec : ℕ → Control → Control
 withMtvec v c = record { status = c .status; enabled = c .enabled; pending = c .pending; mtvec = v; mscratch = c .mscratch; saved = c .saved }
 
+-- with another mscratch
 abbrev pub withMscratch : ℕ → Control → Control
 withMscratch v c = record { status = c .status; enabled = c .enabled; pending = c .pending; mtvec = c .mtvec; mscratch = v; saved = c .saved }
 
+-- with another mepc, mcause and mtval
 abbrev pub withSaved : Saved → Control → Control
 withSaved v c = record { status = c .status; enabled = c .enabled; pending = c .pending; mtvec = c .mtvec; mscratch = c .mscratch; saved = v }
 

@@ -30,13 +30,13 @@ use Rattle.hart.specs.Widths.{loadWidth, storeWidth, loadValue}
 abbrev pub Outcome : Type 0
 Outcome = Result Request Exception × State
 
+-- the instruction is carried out but for what it asks
+abbrev pub asks : Request → State → Outcome
+asks r s = (Ok r, s)
+
 -- nothing is asked
 abbrev pub goes : State → Outcome
-goes s = (Ok ask.Nothing, s)
-
--- the same, and words fetched earlier are to be forgotten
-abbrev pub fences : State → Outcome
-fences s = (Ok ask.Fence, s)
+goes s = asks ask.Nothing s
 
 -- an exception leaves the state to the trap
 abbrev pub raises : Exception → State → Outcome
@@ -67,23 +67,33 @@ combined Set old v = bitOr old v
 combined Clear old v = bitAnd old (2 ^ 32 - 1 - v)
 
 -- a write that was taken or not
-abbrev pub csrStored : ℕ → Bool × Control → (rd old : ℕ) → State → Outcome
-csrStored w (true, c) rd old s = goes (next (put rd old (withControl c s)))
-csrStored w (false, c) rd old s = raises (ex.Illegal w) s
+abbrev pub csrStored : Bool × Control → (rd old : ℕ) → State → Bool × State
+csrStored (true, c) rd old s = (true, next (put rd old (withControl c s)))
+csrStored (false, c) rd old s = (false, s)
 
 -- a control register that reads a value, or none
-abbrev pub csrRead : ℕ → Option ℕ → CsrOp → (rd source : ℕ) → Bool → ℕ → State → Outcome
-csrRead w None op rd v writes n s = raises (ex.Illegal w) s
-csrRead w (Some old) op rd v writes n s =
-    cond writes (csrStored w (written (s .control) n (combined op old v)) rd old s) (goes (next (put rd old s)))
+abbrev pub csrRead : Option ℕ → CsrOp → (rd source : ℕ) → Bool → ℕ → State → Bool × State
+csrRead None op rd v writes n s = (false, s)
+csrRead (Some old) op rd v writes n s =
+    cond writes (csrStored (written (s .control) n (combined op old v)) rd old s) (true, next (put rd old s))
 
-abbrev pub csrDone : ℕ → CsrOp → (rd source : ℕ) → Bool → ℕ → State → Outcome
-csrDone w op rd v writes n s = csrRead w (reading (s .control) n) op rd v writes n s
+-- whether a control register has such a use, and the state then
+abbrev pub csrDone : CsrOp → (rd source : ℕ) → Bool → ℕ → State → Bool × State
+csrDone op rd v writes n s = csrRead (reading (s .control) n) op rd v writes n s
+
+-- nothing is asked, or the word is illegal
+abbrev pub legalIf : ℕ → Bool → Result Request Exception
+legalIf w done = cond done (Ok ask.Nothing) (Err (ex.Illegal w))
+
+-- and the state with it
+abbrev pub legal : ℕ → Bool × State → Outcome
+legal w (done, s) = (legalIf w done, s)
 
 -- an access, unless its address is no multiple of its width
 abbrev pub askedLoad : LoadKind → (rd address : ℕ) → Result Request Exception
 askedLoad l rd a = cond (eqb (a % size (loadWidth l)) 0) (Ok (ask.Load l rd a)) (Err (ex.MisalignedLoad a))
 
+-- the same of a store
 abbrev pub askedStore : Width → (address value : ℕ) → Result Request Exception
 askedStore n a v = cond (eqb (a % size n) 0) (Ok (ask.Store n a v)) (Err (ex.MisalignedStore a))
 
@@ -98,10 +108,10 @@ executed w (Load l rd rs1 v) s = (askedLoad l rd (plus (read s rs1) v), s)
 executed w (Store k rs1 rs2 v) s = (askedStore (storeWidth k) (plus (read s rs1) v) (read s rs2), s)
 executed w (Immediate o rd rs1 v) s = goes (next (put rd (result o (read s rs1) v) s))
 executed w (Op o rd rs1 rs2) s = goes (next (put rd (result o (read s rs1) (read s rs2)) s))
-executed w (Csr o rd rs1 n) s = csrDone w o rd (read s rs1) (not (eqb rs1 0) || writesAlways o) n s
-executed w (CsrImmediate o rd v n) s = csrDone w o rd v (not (eqb v 0) || writesAlways o) n s
+executed w (Csr o rd rs1 n) s = legal w (csrDone o rd (read s rs1) (not (eqb rs1 0) || writesAlways o) n s)
+executed w (CsrImmediate o rd v n) s = legal w (csrDone o rd v (not (eqb v 0) || writesAlways o) n s)
 executed w Fence s = goes (next s)
-executed w FenceI s = fences (next s)
+executed w FenceI s = asks ask.Fence (next s)
 executed w Wfi s = goes (next s)
 executed w Ecall s = raises ex.Ecall s
 executed w Ebreak s = raises ex.Breakpoint s
@@ -117,14 +127,16 @@ settled (Err e, s) = (ask.Nothing, raised e None s)
 unfoldable pub begun : ℕ → Instruction → State → Request × State
 begun w i s = settled (executed w i s)
 
--- the state after what the bus answered to a load, to a store and to a fetch that it refused
+-- the state after what the bus answered to a load
 unfoldable pub loaded : LoadKind → (rd address : ℕ) → Result ℕ FaultNumbers → State → State
 loaded l rd a (Ok v) s = next (put rd (loadValue l v) s)
 loaded l rd a (Err f) s = raised (ex.LoadFault a) (Some f) s
 
+-- after the answer to a store
 unfoldable pub stored : (address : ℕ) → Result (Unit {0}) FaultNumbers → State → State
 stored a (Ok u) s = next s
 stored a (Err f) s = raised (ex.StoreFault a) (Some f) s
 
+-- after a fetch that was refused
 unfoldable pub unfetched : FaultNumbers → State → State
 unfetched f s = raised ex.FetchFault (Some f) s

@@ -30,10 +30,12 @@ pub record TrapNumbers : Type 0 where
   pub mtval : ℕ
   pub fault : Option FaultNumbers
 
+-- the last trap in numbers, if there was one
 abbrev pub trapNumbers : Option Trap → Option TrapNumbers
 trapNumbers (Some t) = Some record { mcause = t .mcause; mepc = t .mepc; mtval = t .mtval; fault = faultsOf (t .fault) }
 trapNumbers None = None
 
+-- what a hart holds, without its ghost fields
 pub record State : Type 0 where
   pub pc : ℕ
   pub x : List ℕ
@@ -48,13 +50,15 @@ stateOf h = record { pc = h .pc; x = h .x; control = h .control; trap = trapNumb
 abbrev pub fresh : ℕ → State
 fresh entry = record { pc = wordOf entry; x = replicate 32 0; control = freshControl; trap = None }
 
--- the state with one part replaced
+-- the state with another pc
 abbrev pub goTo : ℕ → State → State
 goTo a s = record { pc = a; x = s .x; control = s .control; trap = s .trap }
 
+-- with other registers
 abbrev pub withX : List ℕ → State → State
 withX x s = record { pc = s .pc; x = x; control = s .control; trap = s .trap }
 
+-- with other control registers
 abbrev pub withControl : Control → State → State
 withControl c s = record { pc = s .pc; x = s .x; control = c; trap = s .trap }
 

@@ -13,7 +13,7 @@ use Rattle.hart.specs.Control.{bit, status, saved, withStatus, withPending, wi
 use Rattle.hart.specs.Exceptions.{causeOf, valueOf}
 use Rattle.hart.specs.State.{State, goTo, withControl}
 
--- the control registers of a trap: pc and the cause are saved, and interrupts are off
+-- a trap: pc and the cause are saved, interrupts are off, and the handler follows
 abbrev pub trapped : (mcause mtval : ℕ) → Option FaultNumbers → State → State
 trapped cause value fault s =
     let c = s .control in
@@ -42,17 +42,20 @@ mipOf l = flag (l .software) * 8 + flag (l .timer) * 128 + flag (l .external) * 
 abbrev pub sensed : Lines → State → State
 sensed l s = withControl (withPending (mipOf l) (s .control)) s
 
--- the number of the interrupt to take, if any: 11 before 3 before 7
+-- which of the interrupts that are ready is taken, if they are on: 11 before 3 before 7
+abbrev pub chosen : (on : Bool) → (ready : ℕ) → Option ℕ
+chosen on ready = cond on (cond (bit 11 ready) (Some 11) (cond (bit 3 ready) (Some 3) (cond (bit 7 ready) (Some 7) None))) None
+
+-- the number of the interrupt to take, if any
 abbrev pub interrupt : State → Option ℕ
-interrupt s =
-    let ready = bitAnd (s .control .pending) (s .control .enabled) in
-    cond (s .control .status .mie) (cond (bit 11 ready) (Some 11) (cond (bit 3 ready) (Some 3) (cond (bit 7 ready) (Some 7) None))) None
+interrupt s = let c = s .control in chosen (c .status .mie) (bitAnd (c .pending) (c .enabled))
 
 -- whether an interrupt is taken, and the state then; bit 31 of mcause tells interrupts
 abbrev pub taking : Option ℕ → State → Bool × State
 taking (Some n) s = (true, trapped (2 ^ 31 + n) 0 None s)
 taking None s = (false, s)
 
+-- an interrupt is taken if one is due
 abbrev pub interrupted : State → Bool × State
 interrupted s = taking (interrupt s) s
 

@@ -8,6 +8,7 @@ use Rattle.isa.specs.declared.kind.Store.{Store}
 use Rattle.isa.specs.declared.kind.Store.the-variants as store
 use Rattle.isa.specs.Fields.{signExtended}
 
+-- the width of a load
 abbrev pub loadWidth : Load → Width
 loadWidth load.Byte = Byte
 loadWidth load.Half = Half
@@ -15,6 +16,7 @@ loadWidth load.Word = Word
 loadWidth load.ByteUnsigned = Byte
 loadWidth load.HalfUnsigned = Half
 
+-- the width of a store
 abbrev pub storeWidth : Store → Width
 storeWidth store.Byte = Byte
 storeWidth store.Half = Half

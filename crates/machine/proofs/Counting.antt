@@ -1,7 +1,7 @@
 -- Counting events.
 use mathlib.Core.Path.{_≡_, refl}
 use mathlib.Core.List.{List, [], _∷_, _++_}
-use Prim.Native.Nat.{ℕ, suc, _+_}
+use Prim.Native.Nat.{_+_}
 use native.Mathlib.Omega.{arith}
 use Rattle.machine.specs.declared.system.Effect.{Effect}
 use Rattle.machine.specs.declared.system.Effect.the-variants.{Nothing, Stored, Cleared}

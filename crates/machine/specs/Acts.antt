@@ -31,6 +31,7 @@ module _ (K : Kind) where
     pub meaning : K .Meaning
     pub did : Effect
 
+  -- one from its parts
   abbrev pub acted : State → K .Meaning → Effect → Acted
   acted s m e = record { hart = s; meaning = m; did = e }
 

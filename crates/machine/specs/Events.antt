@@ -4,6 +4,7 @@ use Prim.Native.Nat.{ℕ, suc}
 use Rattle.machine.specs.declared.system.Effect.{Effect}
 use Rattle.machine.specs.declared.system.Effect.the-variants.{Nothing, Stored, Cleared}
 
+-- what can happen
 pub data Event : Type 0 where
   -- the word at this address came from the bus
   fetched : ℕ → Event

@@ -29,6 +29,7 @@ refused n = record { number = n; fault = None }
 abbrev pub refusedByBus : FaultNumbers → RefusalNumbers
 refusedByBus f = record { number = 11; fault = Some f }
 
+-- the numbers of a refusal
 abbrev pub refusalNumbers : Refusal → RefusalNumbers
 refusalNumbers Misaligned = refused 10
 refusalNumbers (Bus f) = refusedByBus (faultNumbers f)
@@ -47,6 +48,7 @@ pub record RunNumbers (W : Type 0) : Type 0 where
   pub steps : ℕ
   pub words : W
 
+-- the numbers of a run
 abbrev pub runNumbers : {W : Type 0} → Run W → RunNumbers W
 runNumbers r = record { end = endNumber (r .end); steps = r .steps; words = r .words }
 

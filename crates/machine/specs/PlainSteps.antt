@@ -23,6 +23,7 @@ module _ (K : Kind) where
     pub hart : State
     pub meaning : K .Meaning
 
+  -- a machine from its parts
   abbrev pub plain : State → K .Meaning → PlainState
   plain s m = record { hart = s; meaning = m }
 
@@ -53,6 +54,7 @@ module _ (K : Kind) where
   unfoldable pub plainStep : PlainState → Moved PlainState
   plainStep p = plainTicked (plainLatched (latched (K .lines (p .meaning)) (p .hart)) (p .meaning))
 
+  -- where a machine is
   abbrev pub pcOf : PlainState → ℕ
   pcOf p = p .hart .pc
 
@@ -60,13 +62,15 @@ module _ (K : Kind) where
   abbrev pub fetchedIn : List Event → Fetched
   fetchedIn es = record { fetched = fetches es }
 
-  -- the four calls
+  -- a run
   abbrev pub plainRun : PlainState → (budget stop : ℕ) → Called (Result (RunNumbers Fetched) RefusalNumbers) PlainState
   plainRun = runCall pcOf plainStep fetchedIn
 
+  -- a byte is passed to the bus
   abbrev pub plainFeed : PlainState → (byte : ℕ) → Called (Result (Unit {0}) RefusalNumbers) PlainState
   plainFeed p b = let t = fed K (p .meaning) b in record { answer = t .value; state = plain (p .hart) (t .next); events = [] }
 
+  -- a word is stored
   abbrev pub plainPoke : PlainState → (address value : ℕ) → Called (Result (Unit {0}) RefusalNumbers) PlainState
   plainPoke p a v = let t = poked K (p .meaning) a v in record { answer = t .value; state = plain (p .hart) (t .next); events = eventsOf (effectOf a (t .value)) }
 
@@ -74,6 +78,7 @@ module _ (K : Kind) where
   abbrev pub plainFlush : PlainState → Called (Unit {0}) PlainState
   plainFlush p = record { answer = tt; state = p; events = cleared ∷ [] }
 
+  -- a machine with a fresh hart
   abbrev pub plainFresh : (entry : ℕ) → K .Meaning → PlainState
   plainFresh entry m = plain (fresh entry) m
 

@@ -1,6 +1,6 @@
 -- Runs and calls of a machine, by its step and its pc.
 use mathlib.Core.Bool.{cond}
-use mathlib.Core.List.{List, [], _∷_, _++_}
+use mathlib.Core.List.{List, [], _++_}
 use Prim.Native.Nat.{ℕ, zero, suc, _+_}
 use lib.Dec.{eqb, leb}
 use Rattle.std.specs.declared.result.Result.{Result}
@@ -29,6 +29,7 @@ pub record Called (R S : Type 0) : Type 0 where
   pub state : S
   pub events : List Event
 
+-- a run from its parts
 abbrev pub ended : {S : Type 0} → End → ℕ → S → List Event → Ran S
 ended e k s es = record { end = e; steps = k; next = s; events = es }
 
@@ -46,6 +47,7 @@ module _ {S : Type 0} (pc : S → ℕ) (step : S → Moved S) where
 abbrev pub runOf : {W S : Type 0} → (List Event → W) → Ran S → RunNumbers W
 runOf count r = record { end = endNumber (r .end); steps = r .steps; words = count (r .events) }
 
+-- the call of a run that was taken
 abbrev pub answered : {W S : Type 0} → (List Event → W) → Ran S → Called (Result (RunNumbers W) RefusalNumbers) S
 answered count r = record { answer = Ok (runOf count r); state = r .next; events = r .events }
 

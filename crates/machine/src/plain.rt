@@ -73,7 +73,8 @@ impl<B: Bus> Plain<B> {
     {
         let mut fetched = 0;
         for steps in 0..budget {
-            if self.system.hart.pc() == stop {
+            let stopped = self.system.hart.pc() == stop;
+            if stopped {
                 return Run {
                     end: End::Stopped,
                     steps,

@@ -1,3 +1,4 @@
+pub mod Control
 pub mod Interrupts
 pub mod Runs
 pub mod Sound

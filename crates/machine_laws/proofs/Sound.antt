@@ -17,7 +17,7 @@ use Rattle.bus.specs.Numbers.{FaultNumbers}
 use Rattle.hart.specs.declared.control.Control.{Control}
 use Rattle.hart.specs.declared.request.Request.the-variants as ask
 use Rattle.hart.specs.Control.{reading, written}
-use Rattle.hart.specs.Execute.{Outcome, goes, raises, jumped, csrStored, csrRead, combined, writesAlways, executed, settled, begun, loaded, stored, unfetched}
+use Rattle.hart.specs.Execute.{Outcome, jumped, csrStored, csrRead, combined, legal, writesAlways, executed, settled, begun, loaded, stored, unfetched}
 use Rattle.hart.specs.State.{State, read, plus, next, put, goTo, withControl}
 use Rattle.hart.specs.Traps.{sensed, interrupt, taking, latched}
 use Rattle.hart.specs.Widths.{loadWidth, loadValue}
@@ -59,11 +59,11 @@ jumped-sound a s t h k = cond-both (eqb (a % 4) 0) _ _ SoundIn (λ q. moved t (g
 control-sound : (c : Control) (s : State) → Sound s → Sound (withControl c s)
 control-sound c s h = moved s (withControl c s) h refl (h .aligned)
 
-stored-sound : (w : ℕ) (p : Bool × Control) (rd old : ℕ) (s : State) → Sound s → SoundIn (csrStored w p rd old s)
+stored-sound : (w : ℕ) (p : Bool × Control) (rd old : ℕ) (s : State) → Sound s → SoundIn (legal w (csrStored p rd old s))
 stored-sound w (true, c) rd old s h = next-sound (put rd old (withControl c s)) (put-sound rd old (withControl c s) (control-sound c s h))
 stored-sound w (false, c) rd old s h = h
 
-csr-sound : (w : ℕ) (r : Option ℕ) (op : CsrOp) (rd v : ℕ) (b : Bool) (n : ℕ) (s : State) → Sound s → SoundIn (csrRead w r op rd v b n s)
+csr-sound : (w : ℕ) (r : Option ℕ) (op : CsrOp) (rd v : ℕ) (b : Bool) (n : ℕ) (s : State) → Sound s → SoundIn (legal w (csrRead r op rd v b n s))
 csr-sound w None op rd v b n s h = h
 csr-sound w (Some old) op rd v true n s h = stored-sound w (written (s .control) n (combined op old v)) rd old s h
 csr-sound w (Some old) op rd v false n s h = next-sound (put rd old s) (put-sound rd old s h)

@@ -19,9 +19,9 @@ use Rattle.hart.specs.declared.request.Request.{Request}
 use Rattle.hart.specs.declared.request.Request.the-variants as ask
 use Rattle.hart.specs.Control.{reading, written}
 use Rattle.hart.specs.Exceptions.{causeOf, valueOf}
-use Rattle.hart.specs.Execute.{Outcome, goes, raises, jumped, branched, csrStored, csrRead, combined, writesAlways, executed, settled, begun, loaded, stored, unfetched}
-use Rattle.hart.specs.State.{State, read, plus, next, put, goTo, withControl}
-use Rattle.hart.specs.Traps.{trapped, raised, returned, sensed, interrupt, taking, latched}
+use Rattle.hart.specs.Execute.{Outcome, goes, jumped, csrStored, csrRead, combined, legal, writesAlways, executed, settled, begun, loaded, stored, unfetched}
+use Rattle.hart.specs.State.{State, read, plus, next, put, goTo}
+use Rattle.hart.specs.Traps.{trapped, raised, sensed, interrupt, taking, latched}
 use Rattle.hart.specs.Widths.{loadWidth}
 use Rattle.isa.specs.Branch.{holds}
 use Rattle.isa.specs.Decode.{decoded}
@@ -29,9 +29,9 @@ use Rattle.isa.specs.declared.instruction.Instruction.{Instruction}
 use Rattle.isa.specs.declared.instruction.Instruction.the-variants.{Lui, Auipc, Jal, Jalr, Branch, Load, Store, Immediate, Op, Csr, CsrImmediate, Fence, FenceI, Ecall, Ebreak, Mret, Wfi, Unknown}
 use Rattle.isa.specs.declared.kind.CsrOp.{CsrOp}
 use Rattle.isa.specs.declared.kind.Load.{Load as LoadKind}
-use Rattle.machine.specs.Acts.{act, effectOf}
+use Rattle.machine.specs.Acts.{act}
 use Rattle.machine.specs.PlainSteps.{PlainState, plain, plainActed, plainFetched, plainInstruction, plainLatched, plainStep}
-use Rattle.machine_laws.specs.TrapLaws.{OnlyTraps, TrapsChangeNothing, Restored, ReturnUndoesTrap}
+use Rattle.machine_laws.specs.TrapLaws.{OnlyTraps, TrapsChangeNothing, ReturnUndoesTrap}
 
 pub return-undoes-trap : ReturnUndoesTrap
 return-undoes-trap s cause value fault h = record { pc = omega arith; registers = refl; interrupts = refl; before = refl }
@@ -54,11 +54,11 @@ went s t h = (h, λ e. absurd (true≢false e))
 jumped-leaves : (a : ℕ) (s t : State) → t .trap ≡ s .trap → Leaves s (jumped a s t)
 jumped-leaves a s t h = cond-both (eqb (a % 4) 0) _ _ (Leaves s) (λ q. went s (goTo a t) h) (λ q. (refl, λ e. refl))
 
-stored-leaves : (w : ℕ) (p : Bool × Control) (rd old : ℕ) (s : State) → Leaves s (csrStored w p rd old s)
+stored-leaves : (w : ℕ) (p : Bool × Control) (rd old : ℕ) (s : State) → Leaves s (legal w (csrStored p rd old s))
 stored-leaves w (true, c) rd old s = went s _ refl
 stored-leaves w (false, c) rd old s = (refl, λ e. refl)
 
-csr-leaves : (w : ℕ) (r : Option ℕ) (op : CsrOp) (rd v : ℕ) (b : Bool) (n : ℕ) (s : State) → Leaves s (csrRead w r op rd v b n s)
+csr-leaves : (w : ℕ) (r : Option ℕ) (op : CsrOp) (rd v : ℕ) (b : Bool) (n : ℕ) (s : State) → Leaves s (legal w (csrRead r op rd v b n s))
 csr-leaves w None op rd v b n s = (refl, λ e. refl)
 csr-leaves w (Some old) op rd v true n s = stored-leaves w (written (s .control) n (combined op old v)) rd old s
 csr-leaves w (Some old) op rd v false n s = went s _ refl

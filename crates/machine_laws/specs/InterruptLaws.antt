@@ -1,6 +1,6 @@
 -- When an interrupt is taken, and which.
 use mathlib.Core.Path.{_≡_}
-use mathlib.Core.Bool.{Bool, true, false}
+use mathlib.Core.Bool.{true, false}
 use Prim.Native.Nat.{ℕ, _+_, _/_, _%_, _^_}
 use Rattle.std.specs.declared.option.Option.the-variants.{None}
 use Rattle.bus.specs.declared.access.Lines.{Lines}
@@ -12,13 +12,15 @@ module _ (l : Lines) (s : State) where
   abbrev pub Enabled : ℕ → Type 0
   Enabled n = s .control .enabled / 2 ^ n % 2 ≡ 1
 
-  -- a line is up and its interrupt enabled
+  -- the external line is up and its interrupt enabled
   abbrev pub External : Type 0
   External = (l .external ≡ true) × Enabled 11
 
+  -- the same of the software line
   abbrev pub Software : Type 0
   Software = (l .software ≡ true) × Enabled 3
 
+  -- the same of the timer
   abbrev pub Timer : Type 0
   Timer = (l .timer ≡ true) × Enabled 7
 
@@ -38,5 +40,6 @@ module _ (l : Lines) (s : State) where
     pub timer : s .control .status .mie ≡ true → (External → ⊥) → (Software → ⊥) → Timer → Taken 7
     pub none : (External → ⊥) → (Software → ⊥) → (Timer → ⊥) → NoneTaken
 
+-- for all lines and states
 abbrev pub InterruptsAreOrdered : Type 0
 InterruptsAreOrdered = (l : Lines) (s : State) → InOrder l s

@@ -1,3 +1,4 @@
+pub mod ControlLaws
 pub mod InterruptLaws
 pub mod RunLaws
 pub mod SoundLaws

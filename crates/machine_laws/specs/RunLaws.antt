@@ -1,7 +1,7 @@
 -- Runs of the plain machine: where they stop, and that they can be cut.
 use mathlib.Core.Path.{_≡_}
 use mathlib.Core.Logic.{_⊎_}
-use Prim.Native.Nat.{ℕ, zero, suc, _+_, _≤_, _<_}
+use Prim.Native.Nat.{ℕ, zero, suc, _+_, _<_}
 use Rattle.bus.specs.Kind.{Kind}
 use Rattle.machine.specs.declared.answer.End.the-variants.{BudgetUsed, Stopped}
 use Rattle.machine.specs.PlainSteps.{PlainState, pcOf, plainStep}
@@ -28,8 +28,10 @@ module _ {S : Type 0} (pc : S → ℕ) (step : S → Moved S) where
         → run pc step (n + k) stop s ≡ resumed (run pc step n stop s .steps) (run pc step n stop s .events) (run pc step k stop (run pc step n stop s .next))
     pub stays : run pc step n stop s .end ≡ Stopped → run pc step (n + k) stop s ≡ run pc step n stop s
 
+-- every run of the plain machine does
 abbrev pub RunsStopFirst : Kind → Type 0
 RunsStopFirst K = (budget stop : ℕ) (p : PlainState K) → StopsFirst (pcOf K) (plainStep K) budget stop p (run (pcOf K) (plainStep K) budget stop p)
 
+-- every run of the plain machine can be cut
 abbrev pub RunsCanBeCut : Kind → Type 0
 RunsCanBeCut K = (n k stop : ℕ) (p : PlainState K) → Cut (pcOf K) (plainStep K) n k stop p

@@ -11,6 +11,7 @@ pub record Sound (s : State) : Type 0 where
   pub zero-register : getD (s .x) 0 0 ≡ 0
   pub aligned : s .pc % 4 ≡ 0
 
+-- a fresh hart is sound, and every step keeps it so
 pub record StepsStaySound (K : Kind) : Type 0 where
   pub at-first : (entry : ℕ) → Sound (fresh entry)
   pub then : (p : PlainState K) → Sound (p .hart) → Sound (plainStep K p .next .hart)

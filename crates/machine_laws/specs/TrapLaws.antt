@@ -31,5 +31,6 @@ pub record Restored (s r : State) : Type 0 where
   pub interrupts : r .control .status .mie ≡ s .control .status .mie
   pub before : r .control .status .mpie ≡ true
 
+-- MRET right after a trap
 abbrev pub ReturnUndoesTrap : Type 0
 ReturnUndoesTrap = (s : State) (mcause mtval : ℕ) (fault : Option FaultNumbers) → s .pc % 4 ≡ 0 → Restored s (returned (trapped mcause mtval fault s))

@@ -1,4 +1,5 @@
 // Laws of the hart and of the plain machine, over a bus of any kind. Nothing at run time: each contract is the law.
+ghost use Rattle.machine_laws.specs.ControlLaws.{WritesReadBack, ZeroSourcesOnlyRead};
 ghost use Rattle.machine_laws.specs.InterruptLaws.{InterruptsAreOrdered};
 ghost use Rattle.machine_laws.specs.RunLaws.{RunsCanBeCut, RunsStopFirst};
 ghost use Rattle.machine_laws.specs.SoundLaws.{StepsStaySound};
@@ -23,6 +24,16 @@ pub fn return_undoes_trap()
 // An interrupt is taken exactly when interrupts are on, it is enabled and its line is up; 11 before 3 before 7.
 pub fn interrupts_are_ordered()
     ensures { λ _. ⌜ InterruptsAreOrdered ⌝ }
+{}
+
+// What each control register reads after a write, and that no other changes.
+pub fn writes_read_back()
+    ensures { λ _. ⌜ WritesReadBack ⌝ }
+{}
+
+// CSRRS and CSRRC from x0, or from the immediate 0, write no control register.
+pub fn zero_sources_only_read()
+    ensures { λ _. ⌜ ZeroSourcesOnlyRead ⌝ }
 {}
 
 // A run cut in two is the run with the summed budget.

@@ -1,11 +1,9 @@
 // What each instruction does to a hart.
 ghost use Rattle.bus.specs.Numbers.{faultNumbers, numbered};
-ghost use Rattle.hart.specs.Execute.{askedLoad, askedStore, begun, branched, combined, csrDone, executed, fences, goes, linked, loaded, stored, unfetched, writesAlways};
+ghost use Rattle.hart.specs.Execute.{askedLoad, askedStore, asks, begun, branched, combined, csrDone, executed, goes, legalIf, linked, loaded, stored, unfetched, writesAlways};
 ghost use Rattle.hart.specs.State.{next, plus, put, read, stateOf};
 ghost use Rattle.hart.specs.Traps.{returned};
-ghost use mathlib.Core.Bool.{_||_};
 ghost use mathlib.Core.Path.{_≡_};
-use crate::control::Status;
 use crate::exception::Exception;
 use crate::hart::Hart;
 use crate::request::Request;
@@ -65,6 +63,17 @@ fn combine(op: CsrOp, old: u32, source: u32) -> u32
     }
 }
 
+// Nothing is asked, or the word is illegal.
+fn legal(word: u32, done: bool) -> Outcome
+    ensures { λ r. ⌜ r ≡ legalIf word done ⌝ }
+{
+    if done {
+        Ok(Request::Nothing)
+    } else {
+        Err(Exception::Illegal(word))
+    }
+}
+
 impl Hart {
     // Writes a result, and goes on to the next instruction.
     fn finish(&mut self, rd: u8, value: u32) -> Outcome
@@ -75,32 +84,26 @@ impl Hart {
         Ok(Request::Nothing)
     }
 
-    // Goes on to the next instruction, and does nothing else.
-    fn pass(&mut self) -> Outcome
-        ensures { λ r. ⌜ goes (next (stateOf (now (self .entry)))) ≡ (r, stateOf (now (self .exit))) ⌝ }
+    // Goes on to the next instruction, and does nothing else itself.
+    fn pass(&mut self, request: Request) -> Outcome
+        ensures { λ r. ⌜ asks request (next (stateOf (now (self .entry)))) ≡ (r, stateOf (now (self .exit))) ⌝ }
     {
         self.advance();
-        Ok(Request::Nothing)
+        Ok(request)
     }
 
-    // The same, and asks that words fetched earlier be forgotten.
-    fn pass_fence(&mut self) -> Outcome
-        ensures { λ r. ⌜ fences (next (stateOf (now (self .entry)))) ≡ (r, stateOf (now (self .exit))) ⌝ }
-    {
-        self.advance();
-        Ok(Request::Fence)
-    }
-
-    // MRET.
-    fn leave_trap(&mut self) -> Outcome
+    fn mret(&mut self) -> Outcome
         ensures { λ r. ⌜ goes (returned (stateOf (now (self .entry)))) ≡ (r, stateOf (now (self .exit))) ⌝ }
     {
-        self.control.status = Status {
-            mie: self.control.status.mpie,
-            mpie: true,
-        };
-        self.pc = self.control.saved.mepc / 4 * 4;
+        self.leave_trap();
         Ok(Request::Nothing)
+    }
+
+    // The address of a load, a store or JALR.
+    fn address(&self, rs1: u8, imm: u32) -> u32
+        ensures { λ r. ⌜ r ≡ plus (read (stateOf (now (self .entry))) rs1) imm ⌝ }
+    {
+        self.get(rs1).wrapping_add(imm)
     }
 
     // A branch, taken or not.
@@ -108,7 +111,7 @@ impl Hart {
         ensures { λ r. ⌜ branched taken target (stateOf (now (self .entry))) ≡ (r, stateOf (now (self .exit))) ⌝ }
     {
         if !taken {
-            return self.pass();
+            return self.pass(Request::Nothing);
         }
         if target % 4 != 0 {
             return Err(Exception::MisalignedTarget(target));
@@ -130,33 +133,19 @@ impl Hart {
         Ok(Request::Nothing)
     }
 
-    // A register plus an immediate.
-    fn sum(&self, rs1: u8, imm: u32) -> u32
-        ensures { λ r. ⌜ r ≡ plus (read (stateOf (now (self .entry))) rs1) imm ⌝ }
-    {
-        self.get(rs1).wrapping_add(imm)
-    }
-
-    // Reads a control register into rd, and writes it from a source, unless that is x0 or 0 and the operation heeds it.
-    fn csr(
-        &mut self,
-        word: u32,
-        op: CsrOp,
-        rd: u8,
-        source: u32,
-        named: bool,
-        number: u16,
-    ) -> Outcome
-        ensures { λ r. ⌜ csrDone word op rd source (named || writesAlways op) number (stateOf (now (self .entry))) ≡ (r, stateOf (now (self .exit))) ⌝ }
+    // Reads a control register into rd, and writes it from a source if `writes` says so; false where it has no such use.
+    fn csr(&mut self, op: CsrOp, rd: u8, source: u32, writes: bool, number: u16) -> bool
+        ensures { λ r. ⌜ csrDone op rd source writes number (stateOf (now (self .entry))) ≡ (r, stateOf (now (self .exit))) ⌝ }
     {
         let Some(old) = self.control.read(number) else {
-            return Err(Exception::Illegal(word));
+            return false;
         };
-        let writes = named || always_writes(op);
         if writes && !self.control.write(number, combine(op, old, source)) {
-            return Err(Exception::Illegal(word));
+            return false;
         }
-        self.finish(rd, old)
+        self.set(rd, old);
+        self.advance();
+        true
     }
 
     fn execute(&mut self, word: u32, i: Instruction) -> Outcome
@@ -166,14 +155,14 @@ impl Hart {
             Instruction::Lui { rd, imm } => self.finish(rd, imm),
             Instruction::Auipc { rd, imm } => self.finish(rd, self.pc.wrapping_add(imm)),
             Instruction::Jal { rd, imm } => self.link(rd, self.pc.wrapping_add(imm)),
-            Instruction::Jalr { rd, rs1, imm } => self.link(rd, self.sum(rs1, imm) / 2 * 2),
+            Instruction::Jalr { rd, rs1, imm } => self.link(rd, self.address(rs1, imm) / 2 * 2),
             Instruction::Branch { op, rs1, rs2, imm } => {
                 let taken = op.holds(self.get(rs1), self.get(rs2));
                 self.branch(taken, self.pc.wrapping_add(imm))
             }
-            Instruction::Load { op, rd, rs1, imm } => ask_load(op, rd, self.sum(rs1, imm)),
+            Instruction::Load { op, rd, rs1, imm } => ask_load(op, rd, self.address(rs1, imm)),
             Instruction::Store { op, rs1, rs2, imm } => {
-                ask_store(store_width(op), self.sum(rs1, imm), self.get(rs2))
+                ask_store(store_width(op), self.address(rs1, imm), self.get(rs2))
             }
             Instruction::Immediate { op, rd, rs1, imm } => {
                 self.finish(rd, op.apply(self.get(rs1), imm))
@@ -182,16 +171,18 @@ impl Hart {
                 self.finish(rd, op.apply(self.get(rs1), self.get(rs2)))
             }
             Instruction::Csr { op, rd, rs1, csr } => {
-                self.csr(word, op, rd, self.get(rs1), rs1 != 0, csr)
+                let writes = rs1 != 0 || always_writes(op);
+                legal(word, self.csr(op, rd, self.get(rs1), writes, csr))
             }
             Instruction::CsrImmediate { op, rd, imm, csr } => {
-                self.csr(word, op, rd, u32::from(imm), imm != 0, csr)
+                let writes = imm != 0 || always_writes(op);
+                legal(word, self.csr(op, rd, u32::from(imm), writes, csr))
             }
-            Instruction::Fence | Instruction::Wfi => self.pass(),
-            Instruction::FenceI => self.pass_fence(),
+            Instruction::Fence | Instruction::Wfi => self.pass(Request::Nothing),
+            Instruction::FenceI => self.pass(Request::Fence),
             Instruction::Ecall => Err(Exception::Ecall),
             Instruction::Ebreak => Err(Exception::Breakpoint),
-            Instruction::Mret => self.leave_trap(),
+            Instruction::Mret => self.mret(),
             Instruction::Unknown => Err(Exception::Illegal(word)),
         }
     }

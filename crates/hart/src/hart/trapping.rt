@@ -1,6 +1,5 @@
-// Traps and interrupts.
-ghost use Prim.Native.Nat.{_<_};
-ghost use Rattle.hart.specs.Traps.{interrupt, interrupted, latched, mipOf, raised, trapped};
+// Traps, interrupts and the return from them.
+ghost use Rattle.hart.specs.Traps.{interrupt, interrupted, latched, mipOf, raised, returned, trapped};
 ghost use Rattle.hart.specs.State.{faultsOf, stateOf};
 ghost use mathlib.Core.Path.{_≡_};
 use crate::control::Saved;
@@ -89,5 +88,16 @@ impl Hart {
             return false;
         }
         self.take_due()
+    }
+
+    // MRET.
+    pub(crate) fn leave_trap(&mut self)
+        ensures { λ _. ⌜ stateOf (now (self .exit)) ≡ returned (stateOf (now (self .entry))) ⌝ }
+    {
+        self.control.status = Status {
+            mie: self.control.status.mpie,
+            mpie: true,
+        };
+        self.pc = self.control.saved.mepc / 4 * 4;
     }
 }

@@ -1,7 +1,6 @@
 use mathlib.Core.Path.{_≡_, refl, sym, _∙_, ap}
-use mathlib.Core.Bool.{true, false}
 use mathlib.Core.List.{[], _++_}
-use Prim.Native.Nat.{ℕ, _-_, _≤_, _+_}
+use Prim.Native.Nat.{ℕ, _≤_, _+_}
 use native.Mathlib.Omega.{arith}
 use Rattle.machine.specs.PlainSteps.{plainStep, pcOf, plainOf, fetchedIn}
 use Rattle.machine.specs.declared.answer.End.the-variants.{BudgetUsed, Stopped}
@@ -16,11 +15,11 @@ use Rattle.machine.proofs.plain.Plain.go.Needs.{then-step, else-step}
 pub loop-steps-holds : need.loop-steps-holds
 loop-steps-holds g c = ([], refl, omega arith, begins _ _ _ _ _)
 
-pub returns-then-pc-stop : need.returns-then-pc-stop
-returns-then-pc-stop g c =
+pub returns-then-stopped : need.returns-then-stopped
+returns-then-stopped g c =
     let k = g .B·Bus .kind in
     let i = c .loop-steps .inv in
-    let e : c .loop-steps .self .system .hart .pc ≡ c .args .stop = sym (c .pc .ensures) ∙ c .if-pc-stop .taken in
+    let e : c .loop-steps .self .system .hart .pc ≡ c .args .stop = sym (c .pc .ensures) ∙ c .if-stopped .taken in
     let q = stops (pcOf k) (plainStep k) (c .args .budget) (c .args .stop) _ (c .loop-steps .steps) (i .0) _ (c .loop-steps-test .taken) e (i .3) in
     record { answer = ap (λ (n : ℕ). numbersOf Stopped (c .loop-steps .steps) record { fetched = n }) (sym (i .1)) ∙ sym (ap (λ z. runOf (fetchedIn k) z) q); next = sym (ap (λ z. z .next) q) }
 
@@ -29,7 +28,7 @@ loop-steps-again g c =
     let k = g .B·Bus .kind in
     let i = c .loop-steps .inv in
     let s = plainOf k (g .B·Bus .meaning) (c .loop-steps .self) in
-    let ne : c .loop-steps .self .system .hart .pc ≡ c .args .stop → ⊥ = λ e. c .if-pc-stop .left (c .pc .ensures ∙ e) in
+    let ne : c .loop-steps .self .system .hart .pc ≡ c .args .stop → ⊥ = λ e. c .if-stopped .left (c .pc .ensures ∙ e) in
     let h = more (pcOf k) (plainStep k) (c .args .budget) (c .args .stop) _ (c .loop-steps .steps) (i .0) s _ (c .loop-steps-test .taken) ne (c .step .ensures .next) (i .3) in
     let few : c .if-step .fetched ≤ c .loop-steps .steps + 1 =
     elim (c .if-step .came) [ then-step w ↦ omega (arith, w .fetched-is, i .2) | else-step w ↦ omega (arith, w .fetched-is, i .2) ] in
