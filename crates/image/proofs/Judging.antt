@@ -1,12 +1,12 @@
 -- The verdict on a file is that of the plain sentences about it.
-use Prim.Native.Nat.{ℕ, zero, suc, _+_, _-_, _*_, _%_, _^_, _<_, _≤_}
-use mathlib.Core.Bool.{Bool, true, false, cond, _&&_, _||_}
+use Prim.Native.Nat.{ℕ, suc, _-_, _%_, _<_, _≤_}
+use mathlib.Core.Bool.{Bool, true, false, cond}
 use mathlib.Core.List.{List, [], _∷_}
-use mathlib.Core.Logic.{_⊎_, inl, inr, ⊎-elim}
+use mathlib.Core.Logic.{_⊎_, ⊎-elim}
 use mathlib.Core.Path.{_≡_, refl, sym, ap, _∙_}
 use native.Mathlib.Omega.{arith}
 use borrow.Author.Count.{below-none, below-more}
-use lib.Dec.{leb, ltb, eqb}
+use lib.Dec.{eqb}
 use lib.ListN.{length, getD, take}
 use Rattle.std.specs.Orderings.{Decides}
 use Rattle.std.proofs.shelf.Tests.{and-parts, and-from, eqb-true, eq-eqb, cases-lt}
@@ -17,7 +17,7 @@ use Rattle.image.specs.Below.{every, some}
 use Rattle.image.specs.Fields.{identified}
 use Rattle.image.specs.Headers.{entryOf, tableCount, headerAt}
 use Rattle.image.specs.Verdict.{verdict, sizeFits, kindFits, tableFits, segmentsFit, entryFits, segmentFits, covers}
-use Rattle.image.specs.WellFormed.{Segment-fits, Loaded-at, Right-size, Right-identification, Right-kind, Right-table, Right-segments, Right-entry, Well-formed, Judged}
+use Rattle.image.specs.WellFormed.{Segment-fits, Loaded-at, Right-size, Right-identification, Right-kind, Right-table, Right-entry, Judged}
 
 -- each test with what it tells
 decides-fits : (n : ℕ) (h : ProgramHeader) → Decides (segmentFits n h) (Segment-fits n h)

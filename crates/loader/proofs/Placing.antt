@@ -1,24 +1,22 @@
 -- What a load that was not refused leaves.
 use Prim.Native.Nat.{ℕ, zero, suc, _+_, _-_, _%_, _<_, _≤_}
-use mathlib.Core.Bool.{Bool, true, false, cond}
+use mathlib.Core.Bool.{true, false}
 use mathlib.Core.List.{List}
-use mathlib.Core.Logic.{_≢_, _⊎_, inl, inr, ⊎-elim}
+use mathlib.Core.Logic.{_⊎_, inl, inr, ⊎-elim}
 use mathlib.Core.Path.{_≡_, refl, sym, ap, _∙_, subst}
 use native.Mathlib.Omega.{arith}
 use lib.Dec.{eqb}
 use lib.ListN.{getD, drop}
-use Rattle.std.specs.declared.result.Result.{Result}
 use Rattle.std.specs.declared.result.Result.the-variants.{Ok, Err}
 use Rattle.std.specs.Results.{isOk}
 use Rattle.std.proofs.shelf.Lists.{getD-take, getD-drop, getD-past, length-take}
 use Rattle.std.proofs.shelf.Tests.{cases-eq, cases-lt, cases-bool, eqb-true, eq-eqb, cond-true, cond-false}
 use Rattle.bus.specs.declared.access.Width.the-variants.{Byte}
 use Rattle.bus.specs.Kind.{Kind, Rules, wordOf}
-use Rattle.bus.specs.Numbers.{FaultNumbers}
 use Rattle.image.specs.Headers.{headerAt, tableCount, part}
 use Rattle.image.specs.WellFormed.{Loaded-at}
 use Rattle.loader.specs.Loading.{Outcome, unchanged, goOn, steps, fill, loadSegment, loadAll}
-use Rattle.loader.specs.Placed.{Placed, Last-at}
+use Rattle.loader.specs.Placed.{Placed}
 use Rattle.loader.proofs.Bytes.{byteAt, Steady, stored-here, stored-there}
 
 -- the last of some steps of which none was refused

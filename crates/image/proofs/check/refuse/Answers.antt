@@ -1,8 +1,7 @@
 use mathlib.Core.Bool.{true, false}
-use mathlib.Core.Path.{_≡_, refl, sym, _∙_}
+use mathlib.Core.Path.{refl, sym, _∙_}
 use native.Mathlib.Omega.{arith}
 use Rattle.std.proofs.shelf.Ways.{tells}
-use Rattle.image.specs.Verdict.{sizeFits}
 use Rattle.image.proofs.Judging.{told}
 use Rattle.image.proofs.check.refuse.Needs as need
 

@@ -1,6 +1,5 @@
-use borrow.Author.Needs.{needs}
-use mathlib.Core.Bool.{true, false}
-use mathlib.Core.Path.{_≡_, sym, _∙_, ap}
+use mathlib.Core.Bool.{true}
+use mathlib.Core.Path.{_≡_, sym, _∙_}
 use lib.Dec.{eqb}
 use native.Mathlib.Omega.{arith}
 use Rattle.std.proofs.shelf.Tests.{eq-eqb}

@@ -1,4 +1,4 @@
-use Prim.Native.Nat.{ℕ, _≤_, min}
+use Prim.Native.Nat.{ℕ, min}
 use lib.ListN.{length, drop}
 use mathlib.Core.List.{List}
 use mathlib.Core.Logic.{⊎-elim}

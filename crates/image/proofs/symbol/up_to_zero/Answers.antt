@@ -3,7 +3,7 @@ use lib.Dec.{eqb}
 use lib.ListN.{getD, length, take}
 use lib.Seq.{take-all}
 use mathlib.Core.Bool.{Bool, not, true, false}
-use mathlib.Core.Path.{_≡_, ap, sym, _∙_}
+use mathlib.Core.Path.{_≡_, ap, sym}
 use native.Mathlib.Omega.{arith}
 use Rattle.std.proofs.shelf.Sums.{leading-drop-yes, leading-drop-no, leading-drop-all}
 use Rattle.std.proofs.shelf.Ways.{tells}

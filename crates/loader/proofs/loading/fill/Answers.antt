@@ -8,7 +8,6 @@ use Rattle.std.proofs.shelf.Lists.{getD-past}
 use Rattle.std.proofs.shelf.Tests.{cases-lt}
 use Rattle.std.proofs.shelf.Results.{err-from-errBy}
 use Rattle.bus.specs.declared.access.Width.the-variants.{Byte}
-use Rattle.bus.specs.Kind.{Kind}
 use Rattle.loader.specs.Loading.{Outcome}
 use Rattle.loader.proofs.Steps.{ran-none, ran-more, refused}
 use Rattle.loader.proofs.loading.fill.Needs as need
