@@ -6,7 +6,7 @@ use board::fresh_board;
 use image::{Image, ImageHolder};
 use input::read_image;
 use loader::load;
-use machine::Block;
+use machine::Plain;
 use report::show_report;
 use std::alloc::Global;
 use std::io;
@@ -28,7 +28,7 @@ fn show_run<W: Write>(out: &mut W, heap: Global, image: &Image) -> anyhow::Resul
         show_refusal(out, refusal.number())?;
         return Ok(());
     }
-    let mut machine = Block::new(image.entry(), board);
+    let mut machine = Plain::new(image.entry(), board);
     match machine.run(BUDGET, NO_STOP) {
         Ok(run) => show_report(out, run, machine, image)?,
         Err(refusal) => show_refusal(out, refusal.number())?,

@@ -1,35 +1,36 @@
 use board::Board;
 use hart::Trap;
 use image::{Image, Symbols};
-use machine::{Block, Reuse, Run};
+use machine::{Fetched, Plain, Run};
 use std::io;
 use std::io::Write;
 
 // The end and the counts, the hart, the trap and the console.
 pub(crate) fn show_report<W: Write>(
     out: &mut W,
-    run: Run<Reuse>,
-    machine: Block<Board>,
+    run: Run<Fetched>,
+    machine: Plain<Board>,
     image: &Image,
 ) -> io::Result<()> {
     let end = run.end.number();
     let steps = run.steps;
-    let decoded = run.words.decoded;
-    let reused = run.words.reused;
+    let fetched = run.words.fetched;
     writeln!(out, "end {end} steps {steps}")?;
-    writeln!(out, "decoded {decoded} reused {reused}")?;
+    writeln!(out, "fetched {fetched}")?;
     let pc = machine.pc();
     writeln!(out, "pc {pc:08x}")?;
-    show_registers(out, &machine.registers())?;
+    show_registers(out, &machine)?;
     show_trap(out, machine.trap(), image)?;
     show_console(out, machine)
 }
 
 // The registers that are not zero, by number.
-fn show_registers<W: Write>(out: &mut W, x: &[u32; 32]) -> io::Result<()> {
-    for (i, value) in x.iter().enumerate() {
-        if *value != 0 {
-            writeln!(out, "x{i:02} {value:08x}")?;
+fn show_registers<W: Write>(out: &mut W, machine: &Plain<Board>) -> io::Result<()> {
+    for i in 0..32 {
+        if let Ok(value) = machine.register(i) {
+            if value != 0 {
+                writeln!(out, "x{i:02} {value:08x}")?;
+            }
         }
     }
     Ok(())
@@ -52,7 +53,7 @@ fn show_trap<W: Write>(out: &mut W, trap: Option<Trap>, image: &Image) -> io::Re
 }
 
 // How many bytes were sent, and the bytes.
-fn show_console<W: Write>(out: &mut W, machine: Block<Board>) -> io::Result<()> {
+fn show_console<W: Write>(out: &mut W, machine: Plain<Board>) -> io::Result<()> {
     let (_clint, high) = machine.end().into_parts();
     let (uart, _ram) = high.into_parts();
     let console = uart.into_console();

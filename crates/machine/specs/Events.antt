@@ -7,8 +7,6 @@ use Rattle.machine.specs.declared.system.Effect.TheVariants.{Nothing, Stored, Cl
 pub data Event : Type 0 where
   -- the word at this address came from the bus
   fetched : ℕ → Event
-  -- the word at this address was taken from its slot
-  reused : ℕ → Event
   -- the bus took a store at this address
   stored : ℕ → Event
   -- FENCE.I or flush
@@ -26,16 +24,6 @@ events_of Cleared = cleared ∷ []
 abbrev pub fetches : List Event → ℕ
 fetches [] = 0
 fetches (fetched a ∷ es) = suc (fetches es)
-fetches (reused a ∷ es) = fetches es
 fetches (stored a ∷ es) = fetches es
 fetches (cleared ∷ es) = fetches es
 fetches (ticked ∷ es) = fetches es
-
--- how many words were taken from a slot
-abbrev pub reuses : List Event → ℕ
-reuses [] = 0
-reuses (fetched a ∷ es) = reuses es
-reuses (reused a ∷ es) = suc (reuses es)
-reuses (stored a ∷ es) = reuses es
-reuses (cleared ∷ es) = reuses es
-reuses (ticked ∷ es) = reuses es

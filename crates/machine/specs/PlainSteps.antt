@@ -1,5 +1,5 @@
 -- The plain machine over a bus of any kind.
-use Rattle.std.specs.Prelude.{ℕ, Bool, true, false, [], ◌∷◌, ◌++◌, Ok, Err, Result}
+use Rattle.std.specs.Prelude.{ℕ, Bool, true, false, List, [], ◌∷◌, ◌++◌, Ok, Err, Result}
 use Rattle.bus.specs.Kind.{Kind}
 use Rattle.bus.specs.Numbers.{FaultNumbers}
 use Rattle.hart.specs.Execute.{begun, unfetched}
@@ -9,10 +9,9 @@ use Rattle.isa.specs.Decode.{decoded}
 use Rattle.machine.specs.declared.answer.Fetched.{Fetched}
 use Rattle.machine.specs.declared.plain.Plain.{Plain}
 use Rattle.machine.specs.Acts.{Acted, act, poked, fed, effect_of}
-use Rattle.machine.specs.Counts.{fetched_in}
-use Rattle.machine.specs.Events.{fetched, cleared, ticked, events_of}
+use Rattle.machine.specs.Events.{Event, fetched, cleared, ticked, events_of, fetches}
 use Rattle.machine.specs.Numbers.{RefusalNumbers, RunNumbers}
-use Rattle.machine.specs.Runs.{Moved, Steps, Called, run_call}
+use Rattle.machine.specs.Runs.{Moved, Called, run_call}
 
 module _ (K : Kind) where
   -- what a plain machine holds: its hart, and what its bus holds
@@ -55,9 +54,9 @@ module _ (K : Kind) where
   abbrev pub pc_of : PlainState → ℕ
   pc_of p = p.hart.pc
 
-  -- the machine by its step
-  abbrev pub plain_steps : Steps
-  plain_steps = record { State = PlainState; pc = pc_of; step = plain_step }
+  -- the words fetched
+  abbrev pub fetched_in : List Event → Fetched
+  fetched_in es = record { fetched = fetches es }
 
   -- a run
   abbrev pub plain_run : PlainState → (budget stop : ℕ) → Called (Result (RunNumbers Fetched) RefusalNumbers) PlainState

@@ -18,12 +18,6 @@ pub record Ran (S : Type 0) : Type 0 where
   pub next : S
   pub events : List Event
 
--- a machine by its states, where each is, and its step
-pub record Steps : Type 1 where
-  pub State : Type 0
-  pub pc : State → ℕ
-  pub step : State → Moved State
-
 -- a call: what it answers, the state that it leaves, and what was done
 pub record Called (R S : Type 0) : Type 0 where
   pub answer : R

@@ -25,13 +25,6 @@ pub struct Fetched {
     pub fetched: u32,
 }
 
-// The words that the block machine decoded, and those that it reused.
-#[derive(Clone, Copy)]
-pub struct Reuse {
-    pub decoded: u32,
-    pub reused: u32,
-}
-
 // Why a call was refused.
 #[derive(Clone, Copy)]
 pub enum Refusal {

@@ -1,14 +1,14 @@
 // The plain machine: every word is fetched.
+ghost use Rattle.std.specs.Prelude.{◌≡◌, ◌≤◌};
 ghost use Rattle.hart.specs.Refusals.{register_told};
 ghost use Rattle.hart.specs.State.{register_answer, trap_numbers};
-ghost use Rattle.machine.specs.Counts.{fetch_of, reuse_of};
-ghost use Rattle.machine.specs.Events.{fetches, reuses};
-ghost use Rattle.machine.specs.Numbers.{run_told, told};
-ghost use Rattle.machine.specs.PlainSteps.{plain_feed, plain_flush, plain_fresh, plain_instruction, plain_of, plain_poke, plain_run, plain_steps};
-ghost use Rattle.std.specs.Prelude.{◌≡◌};
+ghost use Rattle.isa.specs.Alu.{flag};
+ghost use Rattle.machine.specs.Events.{fetches};
+ghost use Rattle.machine.specs.Numbers.{run_numbers, run_told, told};
+ghost use Rattle.machine.specs.PlainSteps.{fetched_in, pc_of, plain_feed, plain_flush, plain_fresh, plain_instruction, plain_of, plain_poke, plain_run, plain_step};
+ghost use Rattle.machine.specs.Runs.{run, run_of};
 
-use crate::answer::{Fetched, Refusal, Run};
-use crate::running::{Came, Stepping, go};
+use crate::answer::{End, Fetched, Refusal, Run};
 use crate::system::System;
 use bus::Bus;
 use hart::{RegisterRefusal, Trap};
@@ -30,21 +30,61 @@ impl<B: Bus> Plain<B> {
         }
     }
 
-    // Fetches the word at pc, decodes and executes it.
-    fn instruction(&mut self) -> Came
+    // Fetches the word at pc, decodes and executes it; whether it came.
+    fn instruction(&mut self) -> bool
         ensures next { plain_of kind meaning self.new ≡ (plain_instruction kind (plain_of kind meaning self.old)).next }
-        ensures fetched { fetches (plain_instruction kind (plain_of kind meaning self.old)).events ≡ fetch_of result }
-        ensures reused { reuses (plain_instruction kind (plain_of kind meaning self.old)).events ≡ reuse_of result }
+        ensures count { fetches (plain_instruction kind (plain_of kind meaning self.old)).events ≡ flag result }
     {
         match self.system.bus.fetch(self.system.hart.pc()) {
             Ok(word) => {
                 self.system.perform(word, decode(word));
-                Came::Fetched
+                true
             }
             Err(fault) => {
                 self.system.hart.fail_fetch(fault);
-                Came::Nothing
+                false
             }
+        }
+    }
+
+    // One step; whether a word was fetched in it.
+    fn step(&mut self) -> bool
+        ensures next { plain_of kind meaning self.new ≡ (plain_step kind (plain_of kind meaning self.old)).next }
+        ensures count { fetches (plain_step kind (plain_of kind meaning self.old)).events ≡ flag result }
+    {
+        let fetched = if self.system.interrupted() {
+            false
+        } else {
+            self.instruction()
+        };
+        self.system.bus.tick();
+        fetched
+    }
+
+    // Steps until the budget is used or pc is the stop address.
+    fn go(&mut self, budget: u32, stop: u32) -> Run<Fetched>
+        requires { budget ≤ 1000000 }
+        ensures answer { run_numbers result ≡ run_of (fetched_in kind) (run (pc_of kind) (plain_step kind) budget stop (plain_of kind meaning self.old)) }
+        ensures next { plain_of kind meaning self.new ≡ (run (pc_of kind) (plain_step kind) budget stop (plain_of kind meaning self.old)).next }
+    {
+        let mut fetched = 0;
+        for steps in 0..budget {
+            let stopped = self.system.hart.pc() == stop;
+            if stopped {
+                return Run {
+                    end: End::Stopped,
+                    steps,
+                    words: Fetched { fetched },
+                };
+            }
+            if self.step() {
+                fetched += 1;
+            }
+        }
+        Run {
+            end: End::BudgetUsed,
+            steps: budget,
+            words: Fetched { fetched },
         }
     }
 
@@ -55,13 +95,7 @@ impl<B: Bus> Plain<B> {
         if budget > 1_000_000 {
             return Err(Refusal::Budget);
         }
-        let Run { end, steps, words } = go(self, budget, stop);
-        let fetched = words.decoded;
-        Ok(Run {
-            end,
-            steps,
-            words: Fetched { fetched },
-        })
+        Ok(self.go(budget, stop))
     }
 
     // Passes a byte to the bus.
@@ -97,13 +131,6 @@ impl<B: Bus> Plain<B> {
         self.system.hart.pc()
     }
 
-    // All 32 registers, x0 first.
-    pub fn registers(&self) -> [u32; 32]
-        ensures { result ≡ (plain_of kind meaning self.now).hart.x }
-    {
-        self.system.hart.registers()
-    }
-
     // The record of the last trap, if there was one.
     pub fn trap(&self) -> Option<Trap>
         ensures { trap_numbers result ≡ (plain_of kind meaning self.now).hart.trap }
@@ -125,25 +152,5 @@ impl<B: Bus> Plain<B> {
         let Plain { system } = self;
         let System { hart: _, bus } = system;
         bus
-    }
-}
-
-impl<B: Bus> Stepping for Plain<B> {
-    ghost model = { plain_steps B.Bus.kind };
-
-    ghost state = { plain_of B.Bus.kind B.Bus.meaning };
-
-    fn at(&self) -> u32 {
-        self.system.hart.pc()
-    }
-
-    fn step(&mut self) -> Came {
-        let came = if self.system.interrupted() {
-            Came::Nothing
-        } else {
-            self.instruction()
-        };
-        self.system.bus.tick();
-        came
     }
 }
