@@ -7,7 +7,7 @@ use Rattle.isa.specs.declared.instruction.Instruction.TheVariants.{Lui, Auipc, J
 use Rattle.isa.specs.declared.kind.CsrOp.{CsrOp}
 use Rattle.isa.specs.declared.kind.CsrOp.TheVariants.{Write, Set, Clear}
 use Rattle.isa.specs.declared.kind.Load.{Load as LoadKind}
-use Rattle.isa.specs.Alu.{result}
+use Rattle.isa.specs.Alu.{alu_result}
 use Rattle.isa.specs.Branch.{holds}
 use Rattle.hart.specs.declared.control.Control.{Control}
 use Rattle.hart.specs.declared.exception.Exception.{Exception}
@@ -99,8 +99,8 @@ executed w (Jalr rd rs1 v) s = linked rd (plus (read s rs1) v / 2 * 2) s
 executed w (Branch c rs1 rs2 v) s = branched (holds c (read s rs1) (read s rs2)) (plus s.pc v) s
 executed w (Load l rd rs1 v) s = (asked_load l rd (plus (read s rs1) v), s)
 executed w (Store k rs1 rs2 v) s = (asked_store (store_width k) (plus (read s rs1) v) (read s rs2), s)
-executed w (Immediate o rd rs1 v) s = goes (next (put rd (result o (read s rs1) v) s))
-executed w (Op o rd rs1 rs2) s = goes (next (put rd (result o (read s rs1) (read s rs2)) s))
+executed w (Immediate o rd rs1 v) s = goes (next (put rd (alu_result o (read s rs1) v) s))
+executed w (Op o rd rs1 rs2) s = goes (next (put rd (alu_result o (read s rs1) (read s rs2)) s))
 executed w (Csr o rd rs1 n) s = legal w (csr_done o rd (read s rs1) (not (rs1 == 0) || writes_always o) n s)
 executed w (CsrImmediate o rd v n) s = legal w (csr_done o rd v (not (v == 0) || writes_always o) n s)
 executed w Fence s = goes (next s)

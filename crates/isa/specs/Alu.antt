@@ -23,22 +23,22 @@ abbrev pub flag : Bool → ℕ
 flag b = cond b 1 0
 
 -- the result of an operation on two words
-abbrev pub result : AluOp → ℕ → ℕ → ℕ
-result Add a b = (a + b) % 2 ^ 32
-result Sub a b = (a + (2 ^ 32 - b)) % 2 ^ 32
-result Sll a b = (a * 2 ^ (b % 32)) % 2 ^ 32
-result Slt a b = flag (int_lt (signed a) (signed b))
-result Sltu a b = flag (nat_lt a b)
-result Xor a b = bit_xor a b
-result Srl a b = a / 2 ^ (b % 32)
-result Sra a b = word_of (shr_z (signed a) (2 ^ (b % 32)))
-result Or a b = bit_or a b
-result And a b = bit_and a b
-result Mul a b = (a * b) % 2 ^ 32
-result Mulh a b = upper (signed a *ℤ signed b)
-result Mulhsu a b = upper (signed a *ℤ pos b)
-result Mulhu a b = a * b / 2 ^ 32
-result Div a b = cond (b == 0) (2 ^ 32 - 1) (word_of (int_div (signed a) (signed b)))
-result Divu a b = cond (b == 0) (2 ^ 32 - 1) (a / b)
-result Rem a b = cond (b == 0) a (word_of (int_rem (signed a) (signed b)))
-result Remu a b = cond (b == 0) a (a % b)
+abbrev pub alu_result : AluOp → ℕ → ℕ → ℕ
+alu_result Add a b = (a + b) % 2 ^ 32
+alu_result Sub a b = (a + (2 ^ 32 - b)) % 2 ^ 32
+alu_result Sll a b = (a * 2 ^ (b % 32)) % 2 ^ 32
+alu_result Slt a b = flag (int_lt (signed a) (signed b))
+alu_result Sltu a b = flag (nat_lt a b)
+alu_result Xor a b = bit_xor a b
+alu_result Srl a b = a / 2 ^ (b % 32)
+alu_result Sra a b = word_of (shr_z (signed a) (2 ^ (b % 32)))
+alu_result Or a b = bit_or a b
+alu_result And a b = bit_and a b
+alu_result Mul a b = (a * b) % 2 ^ 32
+alu_result Mulh a b = upper (signed a *ℤ signed b)
+alu_result Mulhsu a b = upper (signed a *ℤ pos b)
+alu_result Mulhu a b = a * b / 2 ^ 32
+alu_result Div a b = cond (b == 0) (2 ^ 32 - 1) (word_of (int_div (signed a) (signed b)))
+alu_result Divu a b = cond (b == 0) (2 ^ 32 - 1) (a / b)
+alu_result Rem a b = cond (b == 0) a (word_of (int_rem (signed a) (signed b)))
+alu_result Remu a b = cond (b == 0) a (a % b)

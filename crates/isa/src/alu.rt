@@ -1,6 +1,6 @@
 // What the register and immediate instructions compute from two words.
 ghost use Rattle.std.specs.Prelude.{◌≡◌};
-ghost use Rattle.isa.specs.Alu.{result, upper};
+ghost use Rattle.isa.specs.Alu.{alu_result, upper};
 
 #[derive(Clone, Copy)]
 pub enum AluOp {
@@ -27,7 +27,7 @@ pub enum AluOp {
 impl AluOp {
     // The result of the operation on the words a and b.
     pub fn apply(self, a: u32, b: u32) -> u32
-        ensures* { λ r. ⌜ r ≡ result self a b ⌝ }
+        ensures { result ≡ alu_result self a b }
     {
         match self {
             AluOp::Add => a.wrapping_add(b),
@@ -54,32 +54,32 @@ impl AluOp {
 
 // The upper word of a product.
 fn upper_word(product: i64) -> u32
-    ensures* { λ r. ⌜ r ≡ upper product ⌝ }
+    ensures { result ≡ upper product }
 {
     (product.cast_unsigned() >> 32) as u32
 }
 
 fn mulh(a: u32, b: u32) -> u32
-    ensures* { λ r. ⌜ r ≡ result AluOp.Mulh a b ⌝ }
+    ensures { result ≡ alu_result AluOp.Mulh a b }
 {
     upper_word(i64::from(a.cast_signed()) * i64::from(b.cast_signed()))
 }
 
 fn mulhsu(a: u32, b: u32) -> u32
-    ensures* { λ r. ⌜ r ≡ result AluOp.Mulhsu a b ⌝ }
+    ensures { result ≡ alu_result AluOp.Mulhsu a b }
 {
     upper_word(i64::from(a.cast_signed()) * i64::from(b))
 }
 
 fn mulhu(a: u32, b: u32) -> u32
-    ensures* { λ r. ⌜ r ≡ result AluOp.Mulhu a b ⌝ }
+    ensures { result ≡ alu_result AluOp.Mulhu a b }
 {
     ((u64::from(a) * u64::from(b)) >> 32) as u32
 }
 
 // Division by zero answers all ones; the quotient that does not fit wraps to the dividend.
 fn div(a: u32, b: u32) -> u32
-    ensures* { λ r. ⌜ r ≡ result AluOp.Div a b ⌝ }
+    ensures { result ≡ alu_result AluOp.Div a b }
 {
     if b == 0 {
         u32::MAX
@@ -91,14 +91,14 @@ fn div(a: u32, b: u32) -> u32
 }
 
 fn divu(a: u32, b: u32) -> u32
-    ensures* { λ r. ⌜ r ≡ result AluOp.Divu a b ⌝ }
+    ensures { result ≡ alu_result AluOp.Divu a b }
 {
     if b == 0 { u32::MAX } else { a / b }
 }
 
 // The remainder by zero is the dividend; it has the dividend's sign.
 fn rem(a: u32, b: u32) -> u32
-    ensures* { λ r. ⌜ r ≡ result AluOp.Rem a b ⌝ }
+    ensures { result ≡ alu_result AluOp.Rem a b }
 {
     if b == 0 {
         a
@@ -110,7 +110,7 @@ fn rem(a: u32, b: u32) -> u32
 }
 
 fn remu(a: u32, b: u32) -> u32
-    ensures* { λ r. ⌜ r ≡ result AluOp.Remu a b ⌝ }
+    ensures { result ≡ alu_result AluOp.Remu a b }
 {
     if b == 0 { a } else { a % b }
 }

@@ -4,7 +4,7 @@ use Rattle.std.specs.Bool.{beq}
 use Rattle.isa.specs.declared.alu.AluOp.{AluOp}
 use Rattle.isa.specs.declared.alu.AluOp.TheVariants.{Add, Sub, Sll, Slt, Sltu, Xor, Srl, Sra, Or, And, Mul, Mulh, Mulhsu, Mulhu, Div, Divu, Rem, Remu}
 use Rattle.isa.specs.declared.branch.Condition.TheVariants.{Eq, Ne, Lt, Ge, Ltu, Geu}
-use Rattle.isa.specs.Alu.{signed, result}
+use Rattle.isa.specs.Alu.{signed, alu_result}
 use Rattle.isa.specs.Branch.{holds}
 
 -- a number of 32 bits
@@ -21,7 +21,7 @@ SignedReading = (n : ℕ) → (n < 2 ^ 31 → signed n ≡ pos n) × (2 ^ 31 ≤
 
 -- every operation gives a word
 abbrev pub ResultsAreWords : Type 0
-ResultsAreWords = (o : AluOp) → ForWords (λ a b. Word (result o a b))
+ResultsAreWords = (o : AluOp) → ForWords (λ a b. Word (alu_result o a b))
 
 -- r is n modulo 2^32
 abbrev pub WrapsTo : (n r : ℕ) → Type 0
@@ -29,9 +29,9 @@ WrapsTo n r = Word r × ((c : ℕ) × (n ≡ c * 2 ^ 32 + r))
 
 -- ADD is the sum modulo 2^32, and ADD and SUB of one word undo one another
 pub record Sums (a b : ℕ) : Type 0 where
-  pub sum : WrapsTo (a + b) (result Add a b)
-  pub taken_off : result Sub (result Add a b) b ≡ a
-  pub put_back : result Add (result Sub a b) b ≡ a
+  pub sum : WrapsTo (a + b) (alu_result Add a b)
+  pub taken_off : alu_result Sub (alu_result Add a b) b ≡ a
+  pub put_back : alu_result Add (alu_result Sub a b) b ≡ a
 
 -- the law of ADD and SUB
 abbrev pub Addition : Type 0
@@ -43,9 +43,9 @@ bit i w = w / 2 ^ i % 2 == 1
 
 -- bit i of the results is that of the operands' bits i
 pub record Bitwise (a b i : ℕ) : Type 0 where
-  pub conjunction : bit i (result And a b) ≡ (bit i a && bit i b)
-  pub disjunction : bit i (result Or a b) ≡ (bit i a || bit i b)
-  pub difference : bit i (result Xor a b) ≡ not (beq (bit i a) (bit i b))
+  pub conjunction : bit i (alu_result And a b) ≡ (bit i a && bit i b)
+  pub disjunction : bit i (alu_result Or a b) ≡ (bit i a || bit i b)
+  pub difference : bit i (alu_result Xor a b) ≡ not (beq (bit i a) (bit i b))
 
 -- the law of AND, OR and XOR
 abbrev pub Logic : Type 0
@@ -61,9 +61,9 @@ SignedFloor n d q = ((q *ℤ pos d) ≤ℤ n) × (n <ℤ ((q +ℤ pos 1) *ℤ po
 
 -- a shift multiplies or divides by 2 to the amount, the low five bits of b
 pub record Shifts (a b : ℕ) : Type 0 where
-  pub left : WrapsTo (a * 2 ^ (b % 2 ^ 5)) (result Sll a b)
-  pub right : Floor a (2 ^ (b % 2 ^ 5)) (result Srl a b)
-  pub arithmetic : SignedFloor (signed a) (2 ^ (b % 2 ^ 5)) (signed (result Sra a b))
+  pub left : WrapsTo (a * 2 ^ (b % 2 ^ 5)) (alu_result Sll a b)
+  pub right : Floor a (2 ^ (b % 2 ^ 5)) (alu_result Srl a b)
+  pub arithmetic : SignedFloor (signed a) (2 ^ (b % 2 ^ 5)) (signed (alu_result Sra a b))
 
 -- the law of SLL, SRL and SRA
 abbrev pub Shifting : Type 0
@@ -71,10 +71,10 @@ Shifting = ForWords Shifts
 
 -- 1 where the first word is less, else 0
 pub record Compares (a b : ℕ) : Type 0 where
-  pub less : signed a <ℤ signed b → result Slt a b ≡ 1
-  pub not_less : signed b ≤ℤ signed a → result Slt a b ≡ 0
-  pub less_unsigned : a < b → result Sltu a b ≡ 1
-  pub not_less_unsigned : b ≤ a → result Sltu a b ≡ 0
+  pub less : signed a <ℤ signed b → alu_result Slt a b ≡ 1
+  pub not_less : signed b ≤ℤ signed a → alu_result Slt a b ≡ 0
+  pub less_unsigned : a < b → alu_result Sltu a b ≡ 1
+  pub not_less_unsigned : b ≤ a → alu_result Sltu a b ≡ 0
 
 -- the law of SLT and SLTU
 abbrev pub Comparison : Type 0
@@ -95,9 +95,9 @@ Branching = (a b : ℕ) → Branches a b
 
 -- the upper and the lower word of a product make up the product, whichever operand is signed
 pub record Products (a b : ℕ) : Type 0 where
-  pub unsigned : result Mulhu a b * 2 ^ 32 + result Mul a b ≡ a * b
-  pub both_signed : signed (result Mulh a b) *ℤ pos (2 ^ 32) +ℤ pos (result Mul a b) ≡ signed a *ℤ signed b
-  pub first_signed : signed (result Mulhsu a b) *ℤ pos (2 ^ 32) +ℤ pos (result Mul a b) ≡ signed a *ℤ pos b
+  pub unsigned : alu_result Mulhu a b * 2 ^ 32 + alu_result Mul a b ≡ a * b
+  pub both_signed : signed (alu_result Mulh a b) *ℤ pos (2 ^ 32) +ℤ pos (alu_result Mul a b) ≡ signed a *ℤ signed b
+  pub first_signed : signed (alu_result Mulhsu a b) *ℤ pos (2 ^ 32) +ℤ pos (alu_result Mul a b) ≡ signed a *ℤ pos b
 
 -- the law of MUL, MULH, MULHSU and MULHU
 abbrev pub Multiplication : Type 0
@@ -105,15 +105,15 @@ Multiplication = ForWords Products
 
 -- quotient times divisor plus remainder is the dividend, and the remainder is smaller than the divisor
 pub record DividesUnsigned (a b : ℕ) : Type 0 where
-  pub whole : result Divu a b * b + result Remu a b ≡ a
-  pub small : result Remu a b < b
+  pub whole : alu_result Divu a b * b + alu_result Remu a b ≡ a
+  pub small : alu_result Remu a b < b
 
 -- the same of signed words; the remainder has the dividend's sign
 pub record DividesSigned (a b : ℕ) : Type 0 where
-  pub whole : signed (result Div a b) *ℤ signed b +ℤ signed (result Rem a b) ≡ signed a
-  pub small : unsigned_abs (signed (result Rem a b)) < unsigned_abs (signed b)
-  pub not_negative : pos 0 ≤ℤ signed a → pos 0 ≤ℤ signed (result Rem a b)
-  pub not_positive : signed a ≤ℤ pos 0 → signed (result Rem a b) ≤ℤ pos 0
+  pub whole : signed (alu_result Div a b) *ℤ signed b +ℤ signed (alu_result Rem a b) ≡ signed a
+  pub small : unsigned_abs (signed (alu_result Rem a b)) < unsigned_abs (signed b)
+  pub not_negative : pos 0 ≤ℤ signed a → pos 0 ≤ℤ signed (alu_result Rem a b)
+  pub not_positive : signed a ≤ℤ pos 0 → signed (alu_result Rem a b) ≤ℤ pos 0
 
 -- the law of DIV, DIVU, REM and REMU, apart from the special cases
 abbrev pub Division : Type 0
@@ -123,12 +123,12 @@ Division =
 
 -- division by zero: all ones, and the dividend
 pub record ByZero (a : ℕ) : Type 0 where
-  pub quotient : result Div a 0 ≡ 0xFFFFFFFF
-  pub quotient_unsigned : result Divu a 0 ≡ 0xFFFFFFFF
-  pub remainder : result Rem a 0 ≡ a
-  pub remainder_unsigned : result Remu a 0 ≡ a
+  pub quotient : alu_result Div a 0 ≡ 0xFFFFFFFF
+  pub quotient_unsigned : alu_result Divu a 0 ≡ 0xFFFFFFFF
+  pub remainder : alu_result Rem a 0 ≡ a
+  pub remainder_unsigned : alu_result Remu a 0 ≡ a
 
 -- the special cases: division by zero, and -2^31 by -1
 abbrev pub DivisionSpecial : Type 0
 DivisionSpecial =
-    ((a : ℕ) → ByZero a) × (result Div 0x80000000 0xFFFFFFFF ≡ 0x80000000) × (result Rem 0x80000000 0xFFFFFFFF ≡ 0)
+    ((a : ℕ) → ByZero a) × (alu_result Div 0x80000000 0xFFFFFFFF ≡ 0x80000000) × (alu_result Rem 0x80000000 0xFFFFFFFF ≡ 0)
