@@ -14,7 +14,7 @@ abbrev pub board_kind : Kind
 board_kind = split clint (split uart ram)
 
 -- what a board holds
-abbrev pub board_of : Split Clint (Split Uart Ram) → board_kind.Meaning
+abbrev pub board_of : {g h k m : _} → Split Clint (Split Uart Ram g h) k m → board_kind.Meaning
 board_of b = halves (timer_of b.low) (halves (serial_of b.high.low) (ram_of b.high.high) b.high.at) b.at
 
 -- memory that nothing was stored in

@@ -17,6 +17,7 @@ const RAM_BYTES: usize = 65_536;
 
 const CONSOLE_BYTES: usize = 4_096;
 
+#[tactic(auto, unfolding(crate::specs::Board::zeros))]
 fn zeroed(heap: Global, n: usize) -> Result<Vec<u8>, AllocError>
     ensures { IfOk result (λ v. v.items ≡ zeros n) }
 {

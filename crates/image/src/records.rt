@@ -33,9 +33,9 @@ pub trait RecordTable {
 
 // The better of the best so far and record `i`.
 fn better<T: RecordTable>(table: &T, a: u32, best: Option<usize>, i: usize) -> Option<usize>
-    requires i_bound { i < (records table.now).count }
-    requires finds_in { FindsIn (records table.now) i a best }
-    ensures { FindsIn (records table.now) (i + 1) a result }
+    requires i_bound { i < (T.records table.now).count }
+    requires finds_in { FindsIn (T.records table.now) i a best }
+    ensures { FindsIn (T.records table.now) (i + 1) a result }
 {
     let record = table.record(i);
     if !record.holds(a) {
@@ -49,7 +49,7 @@ fn better<T: RecordTable>(table: &T, a: u32, best: Option<usize>, i: usize) -> O
 
 // The record that holds an address: of several the one that starts last, and of those the first in the table.
 pub fn find<T: RecordTable>(table: &T, a: u32) -> Option<usize>
-    ensures { Finds (records table.now) a result }
+    ensures { Finds (T.records table.now) a result }
 {
     let mut best = None;
     for i in 0..table.len() {

@@ -22,7 +22,7 @@ pub struct Plain<B: Bus> {
 impl<B: Bus> Plain<B> {
     // A machine whose hart starts at `entry`, low two bits dropped.
     pub fn new(entry: u32, bus: B) -> Self
-        ensures fresh { plain_of kind meaning result ≡ plain_fresh kind entry (meaning bus) }
+        ensures fresh { plain_of B.kind B.meaning result ≡ plain_fresh B.kind entry (B.meaning bus) }
         ensures holds { result.system.bus ≡ bus }
     {
         Plain {
@@ -32,8 +32,8 @@ impl<B: Bus> Plain<B> {
 
     // Fetches the word at pc, decodes and executes it; whether it came.
     fn instruction(&mut self) -> bool
-        ensures next { plain_of kind meaning self.new ≡ (plain_instruction kind (plain_of kind meaning self.old)).next }
-        ensures count { fetches (plain_instruction kind (plain_of kind meaning self.old)).events ≡ flag result }
+        ensures next { plain_of B.kind B.meaning self.new ≡ (plain_instruction B.kind (plain_of B.kind B.meaning self.old)).next }
+        ensures count { fetches (plain_instruction B.kind (plain_of B.kind B.meaning self.old)).events ≡ flag result }
     {
         match self.system.bus.fetch(self.system.hart.pc()) {
             Ok(word) => {
@@ -49,8 +49,8 @@ impl<B: Bus> Plain<B> {
 
     // One step; whether a word was fetched in it.
     fn step(&mut self) -> bool
-        ensures next { plain_of kind meaning self.new ≡ (plain_step kind (plain_of kind meaning self.old)).next }
-        ensures count { fetches (plain_step kind (plain_of kind meaning self.old)).events ≡ flag result }
+        ensures next { plain_of B.kind B.meaning self.new ≡ (plain_step B.kind (plain_of B.kind B.meaning self.old)).next }
+        ensures count { fetches (plain_step B.kind (plain_of B.kind B.meaning self.old)).events ≡ flag result }
     {
         let fetched = if self.system.interrupted() {
             false
@@ -64,8 +64,8 @@ impl<B: Bus> Plain<B> {
     // Steps until the budget is used or pc is the stop address.
     fn go(&mut self, budget: u32, stop: u32) -> Run<Fetched>
         requires { budget ≤ 1000000 }
-        ensures answer { run_numbers result ≡ run_of (fetched_in kind) (run (pc_of kind) (plain_step kind) budget stop (plain_of kind meaning self.old)) }
-        ensures next { plain_of kind meaning self.new ≡ (run (pc_of kind) (plain_step kind) budget stop (plain_of kind meaning self.old)).next }
+        ensures answer { run_numbers result ≡ run_of (fetched_in B.kind) (run (pc_of B.kind) (plain_step B.kind) budget stop (plain_of B.kind B.meaning self.old)) }
+        ensures next { plain_of B.kind B.meaning self.new ≡ (run (pc_of B.kind) (plain_step B.kind) budget stop (plain_of B.kind B.meaning self.old)).next }
     {
         let mut fetched = 0;
         for steps in 0..budget {
@@ -89,8 +89,8 @@ impl<B: Bus> Plain<B> {
     }
 
     pub fn run(&mut self, budget: u32, stop: u32) -> Result<Run<Fetched>, Refusal>
-        ensures answer { run_told result ≡ (plain_run kind (plain_of kind meaning self.old) budget stop).answer }
-        ensures next { plain_of kind meaning self.new ≡ (plain_run kind (plain_of kind meaning self.old) budget stop).state }
+        ensures answer { run_told result ≡ (plain_run B.kind (plain_of B.kind B.meaning self.old) budget stop).answer }
+        ensures next { plain_of B.kind B.meaning self.new ≡ (plain_run B.kind (plain_of B.kind B.meaning self.old) budget stop).state }
     {
         if budget > 1_000_000 {
             return Err(Refusal::Budget);
@@ -100,47 +100,47 @@ impl<B: Bus> Plain<B> {
 
     // Passes a byte to the bus.
     pub fn feed(&mut self, byte: u8) -> Result<(), Refusal>
-        ensures answer { told result ≡ (plain_feed kind (plain_of kind meaning self.old) byte).answer }
-        ensures next { plain_of kind meaning self.new ≡ (plain_feed kind (plain_of kind meaning self.old) byte).state }
+        ensures answer { told result ≡ (plain_feed B.kind (plain_of B.kind B.meaning self.old) byte).answer }
+        ensures next { plain_of B.kind B.meaning self.new ≡ (plain_feed B.kind (plain_of B.kind B.meaning self.old) byte).state }
     {
         self.system.feed(byte)
     }
 
     // Stores a word.
     pub fn poke(&mut self, address: u32, value: u32) -> Result<(), Refusal>
-        ensures answer { told result ≡ (plain_poke kind (plain_of kind meaning self.old) address value).answer }
-        ensures next { plain_of kind meaning self.new ≡ (plain_poke kind (plain_of kind meaning self.old) address value).state }
+        ensures answer { told result ≡ (plain_poke B.kind (plain_of B.kind B.meaning self.old) address value).answer }
+        ensures next { plain_of B.kind B.meaning self.new ≡ (plain_poke B.kind (plain_of B.kind B.meaning self.old) address value).state }
     {
         self.system.poke(address, value)
     }
 
     // Does nothing: this machine keeps no word.
     pub fn flush(&mut self)
-        ensures { plain_of kind meaning self.new ≡ (plain_flush kind (plain_of kind meaning self.old)).state }
+        ensures { plain_of B.kind B.meaning self.new ≡ (plain_flush B.kind (plain_of B.kind B.meaning self.old)).state }
     {}
 
     pub fn register(&self, i: u32) -> Result<u32, RegisterRefusal>
-        ensures { register_told result ≡ register_answer i (plain_of kind meaning self.now).hart }
+        ensures { register_told result ≡ register_answer i (plain_of B.kind B.meaning self.now).hart }
     {
         self.system.hart.register(i)
     }
 
     pub fn pc(&self) -> u32
-        ensures { result ≡ (plain_of kind meaning self.now).hart.pc }
+        ensures { result ≡ (plain_of B.kind B.meaning self.now).hart.pc }
     {
         self.system.hart.pc()
     }
 
     // The record of the last trap, if there was one.
     pub fn trap(&self) -> Option<Trap>
-        ensures { trap_numbers result ≡ (plain_of kind meaning self.now).hart.trap }
+        ensures { trap_numbers result ≡ (plain_of B.kind B.meaning self.now).hart.trap }
     {
         self.system.hart.trap()
     }
 
     // The byte that the bus sent out as number `index`, from 0.
     pub fn sent(&self, index: usize) -> Option<u8>
-        ensures { result ≡ kind.sent (plain_of kind meaning self.now).meaning index }
+        ensures { result ≡ B.kind.sent (plain_of B.kind B.meaning self.now).meaning index }
     {
         self.system.bus.sent(index)
     }

@@ -50,15 +50,15 @@ impl<B: Bus> System<B> {
 
     // Reads the lines into mip; whether an interrupt was taken.
     pub(crate) fn interrupted(&mut self) -> bool
-        ensures hart { latched (kind.lines (meaning self.old.bus)) (state_of self.old.hart) ≡ (result, state_of self.new.hart) }
-        ensures bus { meaning self.new.bus ≡ meaning self.old.bus }
+        ensures hart { latched (B.kind.lines (B.meaning self.old.bus)) (state_of self.old.hart) ≡ (result, state_of self.new.hart) }
+        ensures bus { B.meaning self.new.bus ≡ B.meaning self.old.bus }
     {
         self.hart.latch(self.bus.lines())
     }
 
     // Executes an instruction, its access of the bus included.
     pub(crate) fn perform(&mut self, word: u32, i: Instruction) -> Effect
-        ensures { act kind (begun word i (state_of self.old.hart)) (meaning self.old.bus) ≡ acted kind (state_of self.new.hart) (meaning self.new.bus) result }
+        ensures { act B.kind (begun word i (state_of self.old.hart)) (B.meaning self.old.bus) ≡ acted B.kind (state_of self.new.hart) (B.meaning self.new.bus) result }
     {
         match self.hart.begin(word, i) {
             Request::Nothing => Effect::Nothing,
@@ -82,8 +82,8 @@ impl<B: Bus> System<B> {
 
     // Stores a word.
     pub(crate) fn poke(&mut self, address: u32, value: u32) -> Result<(), Refusal>
-        ensures value { told result ≡ (poked kind (meaning self.old.bus) address value).value }
-        ensures next { meaning self.new.bus ≡ (poked kind (meaning self.old.bus) address value).next }
+        ensures value { told result ≡ (poked B.kind (B.meaning self.old.bus) address value).value }
+        ensures next { B.meaning self.new.bus ≡ (poked B.kind (B.meaning self.old.bus) address value).next }
         ensures hart { state_of self.new.hart ≡ state_of self.old.hart }
     {
         if address % 4 != 0 {
@@ -97,8 +97,8 @@ impl<B: Bus> System<B> {
 
     // Passes a byte to the bus.
     pub(crate) fn feed(&mut self, byte: u8) -> Result<(), Refusal>
-        ensures value { told result ≡ (fed kind (meaning self.old.bus) byte).value }
-        ensures next { meaning self.new.bus ≡ (fed kind (meaning self.old.bus) byte).next }
+        ensures value { told result ≡ (fed B.kind (B.meaning self.old.bus) byte).value }
+        ensures next { B.meaning self.new.bus ≡ (fed B.kind (B.meaning self.old.bus) byte).next }
         ensures hart { state_of self.new.hart ≡ state_of self.old.hart }
     {
         match self.bus.feed(byte) {

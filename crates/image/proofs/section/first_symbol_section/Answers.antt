@@ -4,8 +4,8 @@ use Rattle.image.specs.Symbols.{section_at}
 use Rattle.image.proofs.Tests.{least_at, least-none}
 use Rattle.image.proofs.section.first_symbol_section.Goals as goal
 
-pub returns-then-nth-eq-SHT-SYMTAB : goal.returns-then-nth-eq-SHT-SYMTAB
-returns-then-nth-eq-SHT-SYMTAB c =
+pub returns-then-nth-eq-SHT_SYMTAB : goal.returns-then-nth-eq-SHT_SYMTAB
+returns-then-nth-eq-SHT_SYMTAB c =
     let e : eqb (section_at c.args.bytes.now c.loop-i.i).kind 2 ≡ true = eq-eqb _ 2 (cc)
     in sym (least_at _ _ c.loop-i.i (omega arith) e c.loop-i.invariant)
 

@@ -14,5 +14,5 @@ drop-cut xs n m e =
 
 pub returns : goal.returns
 returns c =
-    c.up-to-zero.ensures
+    c.up_to_zero.ensures
     ∙ ap up_to_zero (between_to_end c.args.names.now c.min.result _ (omega arith) ∙ drop-cut c.args.names.now c.args.at c.min.result c.min.ensures)

@@ -5,5 +5,5 @@ use Rattle.loader.proofs.loading.load.Goals as goal
 
 pub returns : goal.returns
 returns g c =
-    let h = c.in-ok-load-all.ensures in
+    let h = c.in_ok-load_all.ensures in
     record { told = search rules; next = h.next; placed = λ _. placed g.B.Bus.kind g.met.B.Bus.rules _ _ _ h.value h.next }

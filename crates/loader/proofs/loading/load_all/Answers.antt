@@ -6,14 +6,14 @@ use Rattle.loader.proofs.loading.load_all.Goals as goal
 pub loop-i-init : goal.loop-i-init
 loop-i-init g c = ran-none _ _
 
-pub returns-in-err-load-segment : goal.returns-in-err-load-segment
-returns-in-err-load-segment g c =
-    let p = err_from_is_err_and c.from-residual.result c.from-residual.ensures.1 in
-    let h = c.in-err-load-segment.ensures in
+pub returns-in_err-load_segment : goal.returns-in_err-load_segment
+returns-in_err-load_segment g c =
+    let p = err_from_is_err_and c.from_residual.result c.from_residual.ensures.1 in
+    let h = c.in_err-load_segment.ensures in
     let r = refused _ _ c.loop-i.i _ _ _ _ (omega arith) c.loop-i.invariant h.value h.next in
     rw (p.1, p.2) (record { value = r.0; next = r.1 })
 
 pub loop-i-preserved : goal.loop-i-preserved
 loop-i-preserved g c =
-    let h = c.in-ok-load-segment.ensures in
+    let h = c.in_ok-load_segment.ensures in
     ran-more _ _ c.loop-i.i _ _ c.loop-i.invariant h.value h.next
