@@ -1,4 +1,6 @@
 // Reads a firmware image from standard input, runs it on the board, and prints what came of it.
+#![tactic(auto)]
+
 mod input;
 mod report;
 

@@ -1,4 +1,6 @@
 // The board that the bench runs firmware on.
+#![tactic(auto)]
+
 ghost use Rattle.board.specs.Board.{board_of, fresh_board, zeros};
 ghost use Rattle.std.specs.Prelude.{◌≡◌, IfOk};
 

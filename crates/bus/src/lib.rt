@@ -1,4 +1,6 @@
 // What a hart and a loader call: the access types, the trait `Bus`, and the split that joins two buses.
+#![tactic(auto)]
+
 mod access;
 mod bus;
 mod split;

@@ -1,4 +1,6 @@
 // Makes the calls of a script, read from standard input, and prints what each answers.
+#![tactic(auto)]
+
 mod script;
 mod target;
 

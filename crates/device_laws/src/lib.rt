@@ -1,4 +1,6 @@
 // Laws of the buses and devices. Nothing happens at run time: the contract of each function is the law that it names.
+#![tactic(auto)]
+
 ghost use Rattle.std.specs.Prelude.{ℕ};
 ghost use Rattle.device_laws.specs.Memories.{LastStored, MemoriesServe, NothingElseMoves, RomNeverChanges};
 ghost use Rattle.device_laws.specs.SerialPort.{FirstInFirstOut, FreshPort, OverrunMarks, PortRegisters, RoomTakes, Sent, SentInOrder, UartRefuses};

@@ -1,4 +1,6 @@
 // The devices of a board: RAM, ROM, a serial port and a timer. Each is a bus.
+#![tactic(auto)]
+
 mod clint;
 mod memory;
 mod ram;

@@ -1,4 +1,6 @@
 // A hart of RV32IM in machine mode: its registers, its traps, and what each instruction does to it.
+#![tactic(auto)]
+
 mod control;
 mod exception;
 mod hart;

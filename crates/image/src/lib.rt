@@ -1,4 +1,6 @@
 // ELF32 images of RISC-V firmware: which files are let in, and what stands in them.
+#![tactic(auto)]
+
 mod check;
 mod fields;
 mod header;

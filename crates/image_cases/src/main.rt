@@ -1,5 +1,7 @@
 // Edits an image by a script from standard input and prints what the image reader answers.
 // A comment, from # on, is printed as it stands; a line that is no command prints ?.
+#![tactic(auto)]
+
 mod answers;
 mod command;
 

@@ -1,4 +1,6 @@
 // The instruction set of RV32IM with Zicsr and Zifencei: decoding, and what the operations compute.
+#![tactic(auto)]
+
 pub mod alu;
 pub mod branch;
 pub mod decode;

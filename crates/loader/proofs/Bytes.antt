@@ -1,5 +1,5 @@
 -- The bytes of steady words before and after a store of one byte, over any kind of bus that keeps the rules.
-use Rattle.std.proofs.Common.{◌≡◌, ℕ, zero, suc, ◌%◌, ◌<◌, true, ◌≢◌, ◌⊎◌, is_ok, Ok, Result, sym, refl, ap, ◌∙◌, ⊎_elim, arith}
+use Rattle.std.proofs.Common.{◌≡◌, ℕ, zero, suc, ◌%◌, ◌<◌, true, ◌≢◌, is_ok, Ok, Result, sym, refl, ap, ◌∙◌, ⊎_elim, arith}
 use Rattle.std.proofs.lemmas.Bool.{cases_eq}
 use Rattle.bus.specs.declared.access.Width.TheVariants.{Byte}
 use Rattle.bus.specs.Kind.{Kind, Rules, word_of, part, patch}

@@ -1,4 +1,6 @@
 // Loading an image over any bus.
+#![tactic(auto)]
+
 mod loading;
 mod refusal;
 

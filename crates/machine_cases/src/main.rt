@@ -1,5 +1,7 @@
 // Makes the calls of a script, read from standard input, on a plain machine over a fresh board, and prints what each answers.
 // A comment, from # on, is printed where it begins the line; a line that is no call prints ?.
+#![tactic(auto)]
+
 mod answers;
 mod call;
 

@@ -1,4 +1,6 @@
 // Laws of the hart and of the plain machine, over a bus of any kind. Nothing at run time: each contract is the law.
+#![tactic(auto)]
+
 ghost use Rattle.machine_laws.specs.ControlLaws.{WritesReadBack, ZeroSourcesOnlyRead};
 ghost use Rattle.machine_laws.specs.InterruptLaws.{InterruptsAreOrdered};
 ghost use Rattle.machine_laws.specs.RunLaws.{RunsCanBeCut, RunsStopFirst};

@@ -1,5 +1,7 @@
 // Runs a loop with loads, stores and branches over the full board. Without an argument it makes one run of a million steps and
 // prints what it left; with an argument N it times N such runs.
+#![tactic(auto)]
+
 use anyhow::anyhow;
 use board::{Board, fresh_board};
 use machine::Plain;
