@@ -21,10 +21,10 @@ module _ (L H : Kind) where
     pub steady : (split L H).steady m a ≡ L.steady m.low a
     pub load : (n : Width) → Passes (L.load m.low a n).value ((split L H).load m a n).value
     pub load_low : (n : Width) → ((split L H).load m a n).next.low ≡ (L.load m.low a n).next
-    pub load-high : (n : Width) → ((split L H).load m a n).next.high ≡ m.high
+    pub load_high : (n : Width) → ((split L H).load m a n).next.high ≡ m.high
     pub store : (n : Width) (v : ℕ) → Passes (L.store m.low a n v).value ((split L H).store m a n v).value
     pub store_low : (n : Width) (v : ℕ) → ((split L H).store m a n v).next.low ≡ (L.store m.low a n v).next
-    pub store-high : (n : Width) (v : ℕ) → ((split L H).store m a n v).next.high ≡ m.high
+    pub store_high : (n : Width) (v : ℕ) → ((split L H).store m a n v).next.high ≡ m.high
 
   -- and the other way round
   pub record GoesHigh (m : Both) (a : ℕ) : Type 0 where
@@ -32,10 +32,10 @@ module _ (L H : Kind) where
     pub steady : (split L H).steady m a ≡ H.steady m.high a
     pub load : (n : Width) → Passes (H.load m.high a n).value ((split L H).load m a n).value
     pub load_low : (n : Width) → ((split L H).load m a n).next.low ≡ m.low
-    pub load-high : (n : Width) → ((split L H).load m a n).next.high ≡ (H.load m.high a n).next
+    pub load_high : (n : Width) → ((split L H).load m a n).next.high ≡ (H.load m.high a n).next
     pub store : (n : Width) (v : ℕ) → Passes (H.store m.high a n v).value ((split L H).store m a n v).value
     pub store_low : (n : Width) (v : ℕ) → ((split L H).store m a n v).next.low ≡ m.low
-    pub store-high : (n : Width) (v : ℕ) → ((split L H).store m a n v).next.high ≡ (H.store m.high a n v).next
+    pub store_high : (n : Width) (v : ℕ) → ((split L H).store m a n v).next.high ≡ (H.store m.high a n v).next
 
   -- what is below the address, rounded down to a multiple of 4, is the low bus's
   abbrev pub PassesOn : Type 0
@@ -43,12 +43,12 @@ module _ (L H : Kind) where
 
   -- ticks and lines are both sides'; a byte is the high bus's only if the low one has no receiver, or has not sent it
   pub record Shares (m : Both) : Type 0 where
-    pub tick-low : ((split L H).tick m).low ≡ L.tick m.low
-    pub tick-high : ((split L H).tick m).high ≡ H.tick m.high
+    pub tick_low : ((split L H).tick m).low ≡ L.tick m.low
+    pub tick_high : ((split L H).tick m).high ≡ H.tick m.high
     pub software : ((split L H).lines m).software ≡ (L.lines m.low).software || (H.lines m.high).software
     pub timer : ((split L H).lines m).timer ≡ (L.lines m.low).timer || (H.lines m.high).timer
     pub external : ((split L H).lines m).external ≡ (L.lines m.low).external || (H.lines m.high).external
-    pub feed-low : (b : ℕ) → (L.feed m.low b).value ≢ NoReceiver → (((split L H).feed m b).value ≡ (L.feed m.low b).value) × (((split L H).feed m b).next.low ≡ (L.feed m.low b).next) × (((split L H).feed m b).next.high ≡ m.high)
-    pub feed-high : (b : ℕ) → (L.feed m.low b).value ≡ NoReceiver → (((split L H).feed m b).value ≡ (H.feed m.high b).value) × (((split L H).feed m b).next.low ≡ m.low) × (((split L H).feed m b).next.high ≡ (H.feed m.high b).next)
-    pub sent-low : (i b : ℕ) → L.sent m.low i ≡ Some b → (split L H).sent m i ≡ Some b
-    pub sent-high : (i : ℕ) → L.sent m.low i ≡ None → (split L H).sent m i ≡ H.sent m.high i
+    pub feed_low : (b : ℕ) → (L.feed m.low b).value ≢ NoReceiver → (((split L H).feed m b).value ≡ (L.feed m.low b).value) × (((split L H).feed m b).next.low ≡ (L.feed m.low b).next) × (((split L H).feed m b).next.high ≡ m.high)
+    pub feed_high : (b : ℕ) → (L.feed m.low b).value ≡ NoReceiver → (((split L H).feed m b).value ≡ (H.feed m.high b).value) × (((split L H).feed m b).next.low ≡ m.low) × (((split L H).feed m b).next.high ≡ (H.feed m.high b).next)
+    pub sent_low : (i b : ℕ) → L.sent m.low i ≡ Some b → (split L H).sent m i ≡ Some b
+    pub sent_high : (i : ℕ) → L.sent m.low i ≡ None → (split L H).sent m i ≡ H.sent m.high i

@@ -19,13 +19,13 @@ module _ {S : Type 0} (pc : S → ℕ) (step : S → Moved S) where
       let z : suc r.steps ≡ 1 + r.steps = omega arith in
       record {
         state = h.state ∙ ap (λ (k : ℕ). after step k s) z;
-        not-before = before;
+        not_before = before;
         why = reason h.why;
       }
     where
       before : (k : ℕ) → k < 1 + r.steps → pc (after step k s) ≡ stop → ⊥
       before zero l e = away e
-      before (suc k) l e = h.not-before k (omega arith) e
+      before (suc k) l e = h.not_before k (omega arith) e
 
       reason : ((r.end ≡ BudgetUsed) × (r.steps ≡ n)) ⊎ ((r.end ≡ Stopped) × (r.steps < n) × (pc r.next ≡ stop))
           → ((r.end ≡ BudgetUsed) × (1 + r.steps ≡ suc n)) ⊎ ((r.end ≡ Stopped) × (1 + r.steps < suc n) × (pc r.next ≡ stop))
@@ -34,10 +34,10 @@ module _ {S : Type 0} (pc : S → ℕ) (step : S → Moved S) where
 
   pub stops_first : (n stop : ℕ) (s : S) → StopsFirst pc step n stop s (run pc step n stop s)
   unfolding run after
-  stops_first zero stop s = record { state = refl; not-before = λ k l e. absurd (omega arith); why = inl (refl, refl) }
+  stops_first zero stop s = record { state = refl; not_before = λ k l e. absurd (omega arith); why = inl (refl, refl) }
   stops_first (suc n) stop s =
       cond_both (eqb (pc s) stop) (ended Stopped 0 s []) (resumed 1 (step s).events (run pc step n stop (step s).next)) (StopsFirst pc step (suc n) stop s)
-      (λ t. record { state = refl; not-before = λ k l e. absurd (omega arith); why = inr (refl, omega arith, eqb-true (pc s) stop t) })
+      (λ t. record { state = refl; not_before = λ k l e. absurd (omega arith); why = inr (refl, omega arith, eqb-true (pc s) stop t) })
       (λ t. later n stop s (eqb-false (pc s) stop t) (run pc step n stop (step s).next) (stops_first n stop (step s).next))
 
   whole : (r : Ran S) → r ≡ resumed 0 [] r

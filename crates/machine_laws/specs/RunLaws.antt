@@ -16,7 +16,7 @@ module _ {S : Type 0} (pc : S → ℕ) (step : S → Moved S) where
     -- it took as many steps as it says
     pub state : r.next ≡ after step r.steps s
     -- the stop address was not met before
-    pub not-before : (k : ℕ) → k < r.steps → pc (after step k s) ≢ stop
+    pub not_before : (k : ℕ) → k < r.steps → pc (after step k s) ≢ stop
     -- the budget is used, or it is not and the stop address is met
     pub why : ((r.end ≡ BudgetUsed) × (r.steps ≡ budget)) ⊎ ((r.end ≡ Stopped) × (r.steps < budget) × (pc r.next ≡ stop))
 

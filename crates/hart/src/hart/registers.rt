@@ -35,6 +35,13 @@ impl Hart {
         Ok(self.x[i as usize])
     }
 
+    // All 32 registers, x0 first.
+    pub fn registers(&self) -> [u32; 32]
+        ensures { result ≡ (state_of self.now).x }
+    {
+        self.x
+    }
+
     // The record of the last trap, if there was one.
     pub fn trap(&self) -> Option<Trap>
         ensures { trap_numbers result ≡ (state_of self.now).trap }
