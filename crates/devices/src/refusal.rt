@@ -17,10 +17,10 @@ pub(crate) fn refuse<R>(device: Device, address: u32, cause: Cause) -> Result<R,
 }
 
 // A device's answer, its cause of refusal made a fault.
-pub(crate) fn answer<R>(device: Device, address: u32, res: Result<R, Cause>) -> Result<R, Fault>
-    ensures { numbered result ≡ faulted device address res }
+pub(crate) fn answer<R>(device: Device, address: u32, outcome: Result<R, Cause>) -> Result<R, Fault>
+    ensures { numbered result ≡ faulted device address outcome }
 {
-    match res {
+    match outcome {
         Ok(value) => Ok(value),
         Err(cause) => refuse(device, address, cause),
     }

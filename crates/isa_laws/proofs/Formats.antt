@@ -50,7 +50,7 @@ module _ (o d : ℕ) (ho : o < 128) (hd : d < 32) where
       let e = bits-J (v / 2 ^ 12 % 2 ^ 8) (v / 2 ^ 11 % 2 ^ 1) (v / 2 ^ 1 % 2 ^ 10) (v / 2 ^ 20 % 2 ^ 1) (omega arith) (omega arith) (omega arith) (omega arith) in
       (e.0, e.1, cc (e.2, e.3, e.4, e.5, parts-J v h), e.6)
 
--- ---- a sign is sign_extended by a multiple of twice its bit's value m, which divides 2 ^ 32
+-- ---- a sign is extended by a multiple of twice its bit's value m, which divides 2 ^ 32
 
 module _ (m c : ℕ) (h : 2 ^ 32 ≡ c * (2 * m) + 2 * m) where
   extension : (n : ℕ) → (e : ℕ) × (sign_extended m n ≡ n + e * (2 * m))
