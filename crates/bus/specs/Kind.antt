@@ -1,7 +1,7 @@
 -- What a bus may be: its calls as functions of what it holds, and the rules that every kind of bus keeps.
-use Rattle.std.specs.Prelude.{◌≡◌, ℕ, ◌+◌, ◌*◌, ◌/◌, ◌%◌, ◌^◌, ◌<◌, Bool, true, false, ◌≢◌, is_ok, Ok, Option, Result}
-use Rattle.bus.specs.declared.access.Feed.{Feed}
-use Rattle.bus.specs.declared.access.Feed.TheVariants.{NoReceiver}
+use Rattle.std.specs.Prelude.{◌≡◌, ℕ, ◌+◌, ◌*◌, ◌/◌, ◌%◌, ◌^◌, ◌<◌, Bool, true, false, ◌≢◌, is_ok, Ok, Err, Option, Result}
+use Rattle.bus.specs.declared.access.FeedRefusal.{FeedRefusal}
+use Rattle.bus.specs.declared.access.FeedRefusal.TheVariants.{NoReceiver}
 use Rattle.bus.specs.declared.access.Lines.{Lines}
 use Rattle.bus.specs.declared.access.Width.{Width}
 use Rattle.bus.specs.Numbers.{size, FaultNumbers}
@@ -33,7 +33,7 @@ pub record Kind : Type 1 where
   pub tick : Meaning → Meaning
   pub lines : Meaning → Lines
   pub steady : Meaning → ℕ → Bool
-  pub feed : Meaning → ℕ → Answer Feed Meaning
+  pub feed : Meaning → ℕ → Answer (Result (Unit {0}) FeedRefusal) Meaning
   pub sent : Meaning → ℕ → Option ℕ
 
 -- What holds of every kind, whatever the bus holds.
@@ -41,7 +41,7 @@ pub record Rules (K : Kind) : Type 0 where
   -- a refused access, and a byte fed where there is no receiver, change nothing
   pub refused_load_changes_nothing : (m : K.Meaning) (a : ℕ) (n : Width) → is_ok (K.load m a n).value ≡ false → (K.load m a n).next ≡ m
   pub refused_store_changes_nothing : (m : K.Meaning) (a : ℕ) (n : Width) (v : ℕ) → is_ok (K.store m a n v).value ≡ false → (K.store m a n v).next ≡ m
-  pub feed_without_receiver_changes_nothing : (m : K.Meaning) (b : ℕ) → (K.feed m b).value ≡ NoReceiver → (K.feed m b).next ≡ m
+  pub feed_without_receiver_changes_nothing : (m : K.Meaning) (b : ℕ) → (K.feed m b).value ≡ Err NoReceiver → (K.feed m b).next ≡ m
   -- no call changes which words are steady
   pub load_keeps_steady : (m : K.Meaning) (a : ℕ) (n : Width) (x : ℕ) → K.steady (K.load m a n).next x ≡ K.steady m x
   pub store_keeps_steady : (m : K.Meaning) (a : ℕ) (n : Width) (v x : ℕ) → K.steady (K.store m a n v).next x ≡ K.steady m x

@@ -1,4 +1,5 @@
 pub mod Numbers
+pub mod Text
 pub mod Kind
 pub mod Split
 pub mod SplitRules

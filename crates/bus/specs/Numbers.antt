@@ -5,8 +5,8 @@ use Rattle.bus.specs.declared.access.Cause.TheVariants.{Unmapped, ReadOnly, Malf
 use Rattle.bus.specs.declared.access.Device.{Device}
 use Rattle.bus.specs.declared.access.Device.TheVariants.{Ram, Rom, Uart, Clint}
 use Rattle.bus.specs.declared.access.Fault.{Fault}
-use Rattle.bus.specs.declared.access.Feed.{Feed}
-use Rattle.bus.specs.declared.access.Feed.TheVariants.{Taken, Overrun, NoReceiver}
+use Rattle.bus.specs.declared.access.FeedRefusal.{FeedRefusal}
+use Rattle.bus.specs.declared.access.FeedRefusal.TheVariants.{NoReceiver, Overrun}
 use Rattle.bus.specs.declared.access.Width.{Width}
 use Rattle.bus.specs.declared.access.Width.TheVariants.{Byte, Half, Word}
 
@@ -30,11 +30,15 @@ device_number Rom = 2
 device_number Uart = 3
 device_number Clint = 4
 
--- what became of a byte: 0 where it was taken, else the refusal
-abbrev pub feed_number : Feed → ℕ
-feed_number Taken = 0
-feed_number Overrun = 17
-feed_number NoReceiver = 16
+-- why a fed byte was not taken
+abbrev pub feed_refusal_number : FeedRefusal → ℕ
+feed_refusal_number NoReceiver = 16
+feed_refusal_number Overrun = 17
+
+-- what became of a fed byte: 0 where it was taken, else the refusal
+abbrev pub feed_number : Result (Unit {0}) FeedRefusal → ℕ
+feed_number (Ok _) = 0
+feed_number (Err e) = feed_refusal_number e
 
 -- a fault in numbers
 pub record FaultNumbers : Type 0 where

@@ -1,13 +1,12 @@
 -- A split of two buses that keep the rules keeps them.
-use Rattle.std.specs.Prelude.{◌≡◌, ℕ, ◌%◌, ◌^◌, ◌<◌, Bool, true, false, cond, is_ok, Ok, Err, Result, nat_lt, refl}
+use Rattle.std.specs.Prelude.{◌≡◌, ℕ, ◌%◌, ◌^◌, ◌<◌, Bool, true, false, if◌then◌else◌, is_ok, Ok, Err, Result, nat_lt, refl}
 use Rattle.std.proofs.Common.{sym, ap, ◌∙◌, subst, arith}
 use Rattle.std.proofs.lemmas.Bool.Decides.{nat_tests}
 use Rattle.bus.specs.declared.access.Width.{Width}
-use Rattle.bus.specs.declared.access.Feed.{Feed}
-use Rattle.bus.specs.declared.access.Feed.TheVariants.{Taken, Overrun, NoReceiver}
+use Rattle.bus.specs.declared.access.FeedRefusal.TheVariants.{NoReceiver, Overrun}
 use Rattle.bus.specs.Numbers.{FaultNumbers, size}
 use Rattle.bus.specs.Kind.{Kind, Rules, Answer, word_of, part, patch}
-use Rattle.bus.specs.Split.{Halves, halves, split, is_low, passed, passed_on, in_low, in_high, fed_first}
+use Rattle.bus.specs.Split.{Halves, halves, split, is_low, passed, passed_on, in_low, in_high, Fed, fed_first}
 
 -- passing an answer on changes only its fault
 passed-is_ok : {R : Type 0} (r : Result R FaultNumbers) → is_ok (passed r) ≡ is_ok r
@@ -34,25 +33,25 @@ module _ (L H : Kind) where
   high_to m q = halves m.low q m.at
 
   low-steady : (m : M) (q : L.Meaning) (t : ℕ) → L.steady q t ≡ L.steady m.low t → (split L H).steady (low_to m q) t ≡ (split L H).steady m t
-  low-steady m q t e = ap (λ b. cond (is_low m t) b (H.steady m.high t)) e
+  low-steady m q t e = ap (λ b. if is_low m t then b else H.steady m.high t) e
 
   high-steady : (m : M) (q : H.Meaning) (t : ℕ) → H.steady q t ≡ H.steady m.high t → (split L H).steady (high_to m q) t ≡ (split L H).steady m t
-  high-steady m q t e = ap (λ b. cond (is_low m t) (L.steady m.low t) b) e
+  high-steady m q t e = ap (λ b. if is_low m t then L.steady m.low t else b) e
 
   low-fetch : (m : M) (q : L.Meaning) (t : ℕ) → (L.steady m.low t ≡ true → L.fetch q t ≡ L.fetch m.low t) → (split L H).steady m t ≡ true → (split L H).fetch (low_to m q) t ≡ (split L H).fetch m t
   low-fetch m q t e =
-      elim (is_low m t) as (λ b. cond b (L.steady m.low t) (H.steady m.high t) ≡ true → passed (cond b (L.fetch q t) (H.fetch m.high t)) ≡ passed (cond b (L.fetch m.low t) (H.fetch m.high t)))
+      elim (is_low m t) as (λ b. (if b then L.steady m.low t else H.steady m.high t) ≡ true → passed (if b then L.fetch q t else H.fetch m.high t) ≡ passed (if b then L.fetch m.low t else H.fetch m.high t))
       [ true ↦ λ s. ap passed (e s) | false ↦ λ s. refl ]
 
   high-fetch : (m : M) (q : H.Meaning) (t : ℕ) → (H.steady m.high t ≡ true → H.fetch q t ≡ H.fetch m.high t) → (split L H).steady m t ≡ true → (split L H).fetch (high_to m q) t ≡ (split L H).fetch m t
   high-fetch m q t e =
-      elim (is_low m t) as (λ b. cond b (L.steady m.low t) (H.steady m.high t) ≡ true → passed (cond b (L.fetch m.low t) (H.fetch q t)) ≡ passed (cond b (L.fetch m.low t) (H.fetch m.high t)))
+      elim (is_low m t) as (λ b. (if b then L.steady m.low t else H.steady m.high t) ≡ true → passed (if b then L.fetch m.low t else H.fetch q t) ≡ passed (if b then L.fetch m.low t else H.fetch m.high t))
       [ true ↦ λ s. refl | false ↦ λ s. ap passed (e s) ]
 
   -- an access, of a load's or a store's answer R, that went to the side b
   module _ {R : Type 0} (m : M) (x : Answer (Result R FaultNumbers) L.Meaning) (y : Answer (Result R FaultNumbers) H.Meaning) where
     abbrev went : Bool → Answer (Result R FaultNumbers) M
-    went b = passed_on (cond b (in_low m x) (in_high m y))
+    went b = passed_on (if b then in_low m x else in_high m y)
 
     went-refused : (b : Bool) → (is_ok x.value ≡ false → x.next ≡ m.low) → (is_ok y.value ≡ false → y.next ≡ m.high) → is_ok (went b).value ≡ false → (went b).next ≡ m
     went-refused true p q e = ap (low_to m) (p (sym (passed-is_ok x.value) ∙ e))
@@ -67,37 +66,37 @@ module _ (L H : Kind) where
     went-fetch false t p q = high-fetch m y.next t q
 
 module _ (L H : Kind) (l : Rules L) (h : Rules H) where
-  fed-refused : (m : M L H) (r : Feed) (x : Answer Feed L.Meaning) (y : Answer Feed H.Meaning) → x.value ≡ r → (y.value ≡ NoReceiver → y.next ≡ m.high) → (fed_first m r x y).value ≡ NoReceiver → (fed_first m r x y).next ≡ m
-  fed-refused m Taken x y e q p = let z : ◌≡◌ {A = ℕ} 0 1 = cc in absurd (omega arith)
-  fed-refused m Overrun x y e q p = let z : ◌≡◌ {A = ℕ} 0 1 = cc in absurd (omega arith)
-  fed-refused m NoReceiver x y e q p = ap (high_to L H m) (q p)
+  fed-refused : (m : M L H) (r : Fed) (x : Answer Fed L.Meaning) (y : Answer Fed H.Meaning) → x.value ≡ r → (y.value ≡ Err NoReceiver → y.next ≡ m.high) → (fed_first m r x y).value ≡ Err NoReceiver → (fed_first m r x y).next ≡ m
+  fed-refused m (Ok u) x y e q p = cc
+  fed-refused m (Err Overrun) x y e q p = cc
+  fed-refused m (Err NoReceiver) x y e q p = ap (high_to L H m) (q p)
 
-  fed-steady : (m : M L H) (r : Feed) (x : Answer Feed L.Meaning) (y : Answer Feed H.Meaning) (t : ℕ) → L.steady x.next t ≡ L.steady m.low t → H.steady y.next t ≡ H.steady m.high t → (split L H).steady (fed_first m r x y).next t ≡ (split L H).steady m t
-  fed-steady m Taken x y t p q = low-steady L H m x.next t p
-  fed-steady m Overrun x y t p q = low-steady L H m x.next t p
-  fed-steady m NoReceiver x y t p q = high-steady L H m y.next t q
+  fed-steady : (m : M L H) (r : Fed) (x : Answer Fed L.Meaning) (y : Answer Fed H.Meaning) (t : ℕ) → L.steady x.next t ≡ L.steady m.low t → H.steady y.next t ≡ H.steady m.high t → (split L H).steady (fed_first m r x y).next t ≡ (split L H).steady m t
+  fed-steady m (Ok u) x y t p q = low-steady L H m x.next t p
+  fed-steady m (Err Overrun) x y t p q = low-steady L H m x.next t p
+  fed-steady m (Err NoReceiver) x y t p q = high-steady L H m y.next t q
 
-  fed-fetch : (m : M L H) (r : Feed) (x : Answer Feed L.Meaning) (y : Answer Feed H.Meaning) (t : ℕ) → (L.steady m.low t ≡ true → L.fetch x.next t ≡ L.fetch m.low t) → (H.steady m.high t ≡ true → H.fetch y.next t ≡ H.fetch m.high t) → (split L H).steady m t ≡ true → (split L H).fetch (fed_first m r x y).next t ≡ (split L H).fetch m t
-  fed-fetch m Taken x y t p q = low-fetch L H m x.next t p
-  fed-fetch m Overrun x y t p q = low-fetch L H m x.next t p
-  fed-fetch m NoReceiver x y t p q = high-fetch L H m y.next t q
+  fed-fetch : (m : M L H) (r : Fed) (x : Answer Fed L.Meaning) (y : Answer Fed H.Meaning) (t : ℕ) → (L.steady m.low t ≡ true → L.fetch x.next t ≡ L.fetch m.low t) → (H.steady m.high t ≡ true → H.fetch y.next t ≡ H.fetch m.high t) → (split L H).steady m t ≡ true → (split L H).fetch (fed_first m r x y).next t ≡ (split L H).fetch m t
+  fed-fetch m (Ok u) x y t p q = low-fetch L H m x.next t p
+  fed-fetch m (Err Overrun) x y t p q = low-fetch L H m x.next t p
+  fed-fetch m (Err NoReceiver) x y t p q = high-fetch L H m y.next t q
 
   split-aligned : (m : M L H) (x : ℕ) → (split L H).steady m x ≡ true → x % 4 ≡ 0
-  split-aligned m x = elim (is_low m x) as (λ b. cond b (L.steady m.low x) (H.steady m.high x) ≡ true → x % 4 ≡ 0) [ true ↦ l.steady_is_aligned m.low x | false ↦ h.steady_is_aligned m.high x ]
+  split-aligned m x = elim (is_low m x) as (λ b. (if b then L.steady m.low x else H.steady m.high x) ≡ true → x % 4 ≡ 0) [ true ↦ l.steady_is_aligned m.low x | false ↦ h.steady_is_aligned m.high x ]
 
   split-fetched : (m : M L H) (x : ℕ) → (split L H).steady m x ≡ true → (w : ℕ) × ((split L H).fetch m x ≡ Ok w) × (w < 2 ^ 32)
   split-fetched m x =
-      elim (is_low m x) as (λ b. cond b (L.steady m.low x) (H.steady m.high x) ≡ true → (w : ℕ) × (passed (cond b (L.fetch m.low x) (H.fetch m.high x)) ≡ Ok w) × (w < 2 ^ 32)) [
+      elim (is_low m x) as (λ b. (if b then L.steady m.low x else H.steady m.high x) ≡ true → (w : ℕ) × (passed (if b then L.fetch m.low x else H.fetch m.high x) ≡ Ok w) × (w < 2 ^ 32)) [
         | true ↦ λ s. let f = l.steady_word_is_fetched m.low x s in (f.0, ap passed f.1, f.2)
         | false ↦ λ s. let f = h.steady_word_is_fetched m.high x s in (f.0, ap passed f.1, f.2)
       ]
 
   module _ (m : M L H) (a : ℕ) (n : Width) (w : ℕ) where
     abbrev Steady : Bool → Type 0
-    Steady b = cond b (L.steady m.low (word_of a)) (H.steady m.high (word_of a)) ≡ true
+    Steady b = (if b then L.steady m.low (word_of a) else H.steady m.high (word_of a)) ≡ true
 
     abbrev Held : Bool → Type 0
-    Held b = passed (cond b (L.fetch m.low (word_of a)) (H.fetch m.high (word_of a))) ≡ Ok w
+    Held b = passed (if b then L.fetch m.low (word_of a) else H.fetch m.high (word_of a)) ≡ Ok w
 
     loaded_at : (b : Bool) → a % size n ≡ 0 → Steady b → Held b → (went L H m (L.load m.low a n) (H.load m.high a n) b).value ≡ Ok (part w (a % 4) n)
     loaded_at true d s f = ap passed (l.load_answers_its_bytes m.low a n w s d (passed_ok _ w f))
@@ -105,10 +104,10 @@ module _ (L H : Kind) (l : Rules L) (h : Rules H) where
 
     stored_at : (v : ℕ) (b : Bool) → is_low m (word_of a) ≡ b → Steady b → is_ok (went L H m (L.store m.low a n v) (H.store m.high a n v) b).value ≡ true → Held b → (split L H).fetch (went L H m (L.store m.low a n v) (H.store m.high a n v) b).next (word_of a) ≡ Ok (patch w (a % 4) n v)
     stored_at v true e s o f =
-        ap (λ b. passed (cond b (L.fetch (L.store m.low a n v).next (word_of a)) (H.fetch m.high (word_of a)))) e
+        ap (λ b. passed (if b then L.fetch (L.store m.low a n v).next (word_of a) else H.fetch m.high (word_of a))) e
         ∙ ap passed (l.store_replaces_its_bytes m.low a n v w s (sym (passed-is_ok (L.store m.low a n v).value) ∙ o) (passed_ok _ w f))
     stored_at v false e s o f =
-        ap (λ b. passed (cond b (L.fetch m.low (word_of a)) (H.fetch (H.store m.high a n v).next (word_of a)))) e
+        ap (λ b. passed (if b then L.fetch m.low (word_of a) else H.fetch (H.store m.high a n v).next (word_of a))) e
         ∙ ap passed (h.store_replaces_its_bytes m.high a n v w s (sym (passed-is_ok (H.store m.high a n v).value) ∙ o) (passed_ok _ w f))
 
   pub split-rules : Rules (split L H)

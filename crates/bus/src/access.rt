@@ -1,8 +1,12 @@
-ghost use Rattle.std.specs.Prelude.{◌≡◌, ◌%◌, ◌==◌};
-ghost use Rattle.bus.specs.Numbers.{cause_number, device_number, feed_number, size};
+ghost use Rattle.std.specs.Prelude.{◌≡◌, ◌%◌, ◌==◌, Some};
+ghost use Rattle.bus.specs.Numbers.{cause_number, device_number, fault_numbers, feed_number, feed_refusal_number, size};
+ghost use Rattle.bus.specs.Split.{deeper};
+ghost use Rattle.bus.specs.Text.{fault_text};
+
+use std::fmt;
 
 // How many bytes a load or a store moves.
-#[derive(Clone, Copy)]
+#[derive(Clone, Copy, Debug, PartialEq, Eq)]
 pub enum Width {
     Byte,
     Half,
@@ -10,29 +14,29 @@ pub enum Width {
 }
 
 // Why an access was refused.
-#[derive(Clone, Copy)]
+#[derive(Clone, Copy, Debug, PartialEq, Eq)]
 pub enum Cause {
     // Nothing lies at the address.
-    Unmapped,
+    Unmapped = 1,
     // The device takes no store there.
-    ReadOnly,
+    ReadOnly = 2,
     // The device does not serve the width, or the address is no multiple of it.
-    Malformed,
+    Malformed = 3,
     // The device answers loads there, and no fetch.
-    NoCode,
+    NoCode = 4,
 }
 
 // The devices, as faults name them.
-#[derive(Clone, Copy)]
+#[derive(Clone, Copy, Debug, PartialEq, Eq)]
 pub enum Device {
-    Ram,
-    Rom,
-    Uart,
-    Clint,
+    Ram = 1,
+    Rom = 2,
+    Uart = 3,
+    Clint = 4,
 }
 
 // A refused access: why, at which address, by which device, and how many splits lie above it.
-#[derive(Clone, Copy)]
+#[derive(Clone, Copy, Debug, PartialEq, Eq)]
 pub struct Fault {
     pub cause: Cause,
     pub address: u32,
@@ -41,19 +45,20 @@ pub struct Fault {
 }
 
 // The interrupt lines, each up or down.
-#[derive(Clone, Copy)]
+#[derive(Clone, Copy, Debug, PartialEq, Eq)]
 pub struct Lines {
     pub software: bool,
     pub timer: bool,
     pub external: bool,
 }
 
-// What became of a byte that was fed.
-#[derive(Clone, Copy)]
-pub enum Feed {
-    Taken,
-    Overrun,
-    NoReceiver,
+// Why a fed byte was not taken.
+#[derive(Clone, Copy, Debug, PartialEq, Eq)]
+pub enum FeedRefusal {
+    // The bus has no receiver.
+    NoReceiver = 16,
+    // The receiver was full: the byte is lost, and that is marked.
+    Overrun = 17,
 }
 
 impl Width {
@@ -67,7 +72,7 @@ impl Width {
         }
     }
 
-    // Whether the address is a multiple of the width; no division by a variable.
+    // Whether the address is a multiple of the width, by a constant in each case.
     pub fn divides(self, address: u32) -> bool
         ensures { result ≡ (address % size self == 0) }
     {
@@ -83,12 +88,7 @@ impl Cause {
     pub fn number(self) -> u8
         ensures { result ≡ cause_number self }
     {
-        match self {
-            Cause::Unmapped => 1,
-            Cause::ReadOnly => 2,
-            Cause::Malformed => 3,
-            Cause::NoCode => 4,
-        }
+        self as u8
     }
 }
 
@@ -96,25 +96,54 @@ impl Device {
     pub fn number(self) -> u8
         ensures { result ≡ device_number self }
     {
-        match self {
-            Device::Ram => 1,
-            Device::Rom => 2,
-            Device::Uart => 3,
-            Device::Clint => 4,
+        self as u8
+    }
+}
+
+impl Fault {
+    // The fault as it is seen from above one more split.
+    pub(crate) fn deeper(self) -> Self
+        ensures { fault_numbers result ≡ deeper (fault_numbers self) }
+    {
+        Fault {
+            depth: self.depth.saturating_add(1),
+            ..self
         }
     }
 }
 
-impl Feed {
-    // 0 where the byte was taken, else the number of the refusal.
+// The fault in numbers: the cause, the address in hexadecimal, the device and the depth.
+impl fmt::Display for Fault {
+    ghost output = { λ f. Some (fault_text (fault_numbers f)) };
+
+    #[tactic(auto, using(crate::proofs::Printed::zeros_first))]
+    fn fmt<W: fmt::Write>(&self, f: &mut fmt::Formatter<W>) -> fmt::Result {
+        write!(
+            f,
+            "{} address {:08x} device {} depth {}",
+            self.cause.number(),
+            self.address,
+            self.device.number(),
+            self.depth
+        )
+    }
+}
+
+impl FeedRefusal {
     pub fn number(self) -> u8
-        ensures { result ≡ feed_number self }
+        ensures { result ≡ feed_refusal_number self }
     {
-        match self {
-            Feed::Taken => 0,
-            Feed::Overrun => 17,
-            Feed::NoReceiver => 16,
-        }
+        self as u8
+    }
+}
+
+// What became of a fed byte: 0 where it was taken, else the number of the refusal.
+pub fn feed_number(answer: Result<(), FeedRefusal>) -> u8
+    ensures { result ≡ feed_number answer }
+{
+    match answer {
+        Ok(()) => 0,
+        Err(refusal) => refusal.number(),
     }
 }
 

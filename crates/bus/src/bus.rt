@@ -2,9 +2,10 @@ ghost use Rattle.bus.specs.Kind.{Kind, Rules};
 ghost use Rattle.bus.specs.Numbers.{numbered};
 ghost use Rattle.std.specs.Prelude.{◌≡◌};
 
-use crate::access::{Fault, Feed, Lines, Width};
+use crate::access::{Fault, FeedRefusal, Lines, Width};
 
-// What a bus holds is its meaning. Each call's answer, and the meaning after it, are those of its kind.
+// What a bus holds is its meaning. Each call's answer, and the meaning after it, are those of its kind. No call has a default body:
+// it could not meet a clause that cites the implementation's kind.
 pub trait Bus {
     ghost kind: { Kind };
 
@@ -14,7 +15,8 @@ pub trait Bus {
     fn fetch(&self, address: u32) -> Result<u32, Fault>
         ensures { numbered result ≡ kind.fetch (meaning self.now) address };
 
-    // The bytes from an address on, the first one lowest.
+    // The bytes from an address on, the first one lowest. An address and a width stay two parameters: a struct of both would be
+    // built at each call and taken apart in it.
     fn load(&mut self, address: u32, width: Width) -> Result<u32, Fault>
         ensures value { numbered result ≡ (kind.load (meaning self.old) address width).value }
         ensures next { meaning self.new ≡ (kind.load (meaning self.old) address width).next };
@@ -37,7 +39,7 @@ pub trait Bus {
         ensures { result ≡ kind.steady (meaning self.now) address };
 
     // Hands a byte to the receiver.
-    fn feed(&mut self, byte: u8) -> Feed
+    fn feed(&mut self, byte: u8) -> Result<(), FeedRefusal>
         ensures value { result ≡ (kind.feed (meaning self.old) byte).value }
         ensures next { meaning self.new ≡ (kind.feed (meaning self.old) byte).next };
 

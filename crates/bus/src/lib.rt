@@ -5,6 +5,6 @@ mod access;
 mod bus;
 mod split;
 
-pub use access::{Cause, Device, Fault, Feed, Lines, Width};
+pub use access::{Cause, Device, Fault, FeedRefusal, Lines, Width, feed_number};
 pub use bus::Bus;
 pub use split::Split;

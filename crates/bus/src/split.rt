@@ -1,10 +1,10 @@
 ghost use Rattle.std.specs.Prelude.{◌≡◌, ◌%◌, nat_lt};
 ghost use Rattle.bus.specs.Kind.{word_of};
-ghost use Rattle.bus.specs.Numbers.{fault_numbers, numbered};
-ghost use Rattle.bus.specs.Split.{deeper, halves, passed, split};
+ghost use Rattle.bus.specs.Numbers.{numbered};
+ghost use Rattle.bus.specs.Split.{halves, passed, split};
 ghost use Rattle.bus.specs.SplitRules.{split-rules};
 
-use crate::access::{Fault, Feed, Lines, Width};
+use crate::access::{Fault, FeedRefusal, Lines, Width};
 use crate::bus::Bus;
 
 // Two buses side by side: the addresses below `at` are the low one's, the rest the high one's.
@@ -42,23 +42,11 @@ impl<L: Bus, H: Bus> Split<L, H> {
     }
 }
 
-// The fault as it is seen from above one more split.
-fn one_deeper(fault: Fault) -> Fault
-    ensures { fault_numbers result ≡ deeper (fault_numbers fault) }
-{
-    Fault {
-        depth: fault.depth.saturating_add(1),
-        ..fault
-    }
-}
-
+// A side's answer, its fault one deeper. Which side is chosen in each call: the two are of different types.
 fn pass_on<R>(answer: Result<R, Fault>) -> Result<R, Fault>
     ensures { numbered result ≡ passed (numbered answer) }
 {
-    match answer {
-        Ok(value) => Ok(value),
-        Err(fault) => Err(one_deeper(fault)),
-    }
+    answer.map_err(|fault| fault.deeper())
 }
 
 impl<L: Bus, H: Bus> Bus for Split<L, H> {
@@ -116,18 +104,15 @@ impl<L: Bus, H: Bus> Bus for Split<L, H> {
     }
 
     // The high bus is fed only where the low one has no receiver.
-    fn feed(&mut self, byte: u8) -> Feed {
+    fn feed(&mut self, byte: u8) -> Result<(), FeedRefusal> {
         match self.low.feed(byte) {
-            Feed::NoReceiver => self.high.feed(byte),
+            Err(FeedRefusal::NoReceiver) => self.high.feed(byte),
             answer => answer,
         }
     }
 
     // The high bus is asked only where the low one sent no such byte.
     fn sent(&self, index: usize) -> Option<u8> {
-        match self.low.sent(index) {
-            Some(byte) => Some(byte),
-            None => self.high.sent(index),
-        }
+        self.low.sent(index).or_else(|| self.high.sent(index))
     }
 }
