@@ -1,10 +1,10 @@
 // The board that the bench runs firmware on.
 #![tactic(auto)]
 
-ghost use Rattle.board.specs.Board.{board_of, fresh_board, zeros};
+ghost use Rattle.board.specs.Board.{fresh_board, zeros};
 ghost use Rattle.std.specs.Prelude.{◌≡◌, IfOk};
 
-use bus::Split;
+use bus::{Bus, Split};
 use devices::{Clint, Ram, Uart};
 use std::alloc::{AllocError, Global};
 
@@ -28,7 +28,7 @@ fn zeroed(heap: Global, n: usize) -> Result<Vec<u8>, AllocError>
 
 // A board as it is when switched on: 64 KiB of RAM, all zeros, and room for 4,096 sent bytes.
 pub fn fresh_board(heap: Global) -> Result<Board, AllocError>
-    ensures { IfOk result (λ b. board_of b ≡ fresh_board) }
+    ensures { IfOk result (λ b. ⟦<Board as Bus>⟧.meaning b ≡ fresh_board) }
 {
     let memory = zeroed(heap, RAM_BYTES)?;
     let uart = Uart::new(heap, CONSOLE_BYTES)?;

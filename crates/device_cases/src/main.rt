@@ -9,37 +9,44 @@ use std::io;
 use target::Target;
 
 fn show_bytes(rt: &impl Print, bytes: &[u8]) -> io::Result<()> {
-    rt.print("bytes")?;
+    print!(rt; "bytes")?;
     for byte in bytes {
         print!(rt; " {byte:02x}")?;
     }
-    rt.println("")
+    println!(rt; "")
 }
 
 // What a line does to the bus of its section.
-fn step(rt: &(impl Print + AllocGlobal), target: Target, text: &str) -> io::Result<Target> {
-    let mut target = target;
+fn step(
+    rt: &(impl Print + AllocGlobal),
+    target: &mut Option<Target>,
+    text: &str,
+) -> io::Result<()> {
     match parse(text) {
-        Some(Line::Blank) => rt.println(text)?,
+        Some(Line::Blank) => println!(rt; "{text}"),
         Some(Line::Make(make)) => {
-            target = Target::new(rt.alloc(), make)?;
-            rt.println(text)?;
+            *target = Some(Target::new(rt.alloc(), make)?);
+            println!(rt; "{text}")
         }
-        Some(Line::Call(call)) => target.call(rt, call)?,
+        Some(Line::Call(call)) => match target {
+            Some(target) => target.call(rt, call),
+            None => println!(rt; "?"),
+        },
         Some(Line::End) => {
-            let bytes = target.into_bytes(rt.alloc());
-            show_bytes(rt, &bytes)?;
-            target = Target::None;
+            let bytes = match target.take() {
+                Some(target) => target.into_bytes(rt.alloc()),
+                None => Vec::new(rt.alloc()),
+            };
+            show_bytes(rt, &bytes)
         }
-        None => rt.println("?")?,
+        None => println!(rt; "?"),
     }
-    Ok(target)
 }
 
 fn main(rt: HostRuntime) -> io::Result<()> {
-    let mut target = Target::None;
+    let mut target = None;
     for line in rt.lines(rt.alloc()) {
-        target = step(&rt, target, line?.as_str())?;
+        step(&rt, &mut target, line?.as_str())?;
     }
     Ok(())
 }

@@ -35,22 +35,15 @@ pub enum Call {
     Sent(u32),
 }
 
-// The numbers after a line's first word.
-#[derive(Drop)]
-enum Numbers {
-    None,
-    One(u32),
-    Two(u32, u32),
-    Three(u32, u32, u32),
-}
+// The numbers after a line's first word, at most three.
+type Numbers = [Option<u32>; 3];
 
+// A word's number, or none where there is no word. `machine_cases` has the same: a crate for one line would be longer than both.
 fn number(word: Option<&str>) -> Result<Option<u32>, ParseIntError> {
-    match word {
-        Some(text) => Ok(Some(u32::from_str_radix(text, 16)?)),
-        None => Ok(None),
-    }
+    word.map(|text| u32::from_str_radix(text, 16)).transpose()
 }
 
+// A function: a `TryFrom` would have to stand in `bus`, a public function there for this program alone.
 fn width(size: u32) -> Option<Width> {
     match size {
         1 => Some(Width::Byte),
@@ -60,44 +53,29 @@ fn width(size: u32) -> Option<Width> {
     }
 }
 
-fn read_numbers(first: Option<&str>, second: Option<&str>, third: Option<&str>) -> Option<Numbers> {
-    match (
-        number(first).ok()?,
-        number(second).ok()?,
-        number(third).ok()?,
-    ) {
-        (None, _, _) => Some(Numbers::None),
-        (Some(a), None, _) => Some(Numbers::One(a)),
-        (Some(a), Some(b), None) => Some(Numbers::Two(a, b)),
-        (Some(a), Some(b), Some(c)) => Some(Numbers::Three(a, b, c)),
-    }
-}
-
-fn made_by(name: &str, numbers: &Numbers) -> Option<Make> {
+fn made_by(name: &str, numbers: Numbers) -> Option<Make> {
     match (name, numbers) {
-        ("ram", Numbers::Two(base, len)) => Some(Make::Ram(*base, *len)),
-        ("rom", Numbers::Two(base, len)) => Some(Make::Rom(*base, *len)),
-        ("uart", Numbers::One(room)) => Some(Make::Uart(*room)),
-        ("clint", Numbers::None) => Some(Make::Clint),
-        ("board", Numbers::None) => Some(Make::Board),
+        ("ram", [Some(base), Some(len), None]) => Some(Make::Ram(base, len)),
+        ("rom", [Some(base), Some(len), None]) => Some(Make::Rom(base, len)),
+        ("uart", [Some(room), None, None]) => Some(Make::Uart(room)),
+        ("clint", [None, None, None]) => Some(Make::Clint),
+        ("board", [None, None, None]) => Some(Make::Board),
         _ => None,
     }
 }
 
-fn called_by(name: &str, numbers: &Numbers) -> Option<Call> {
+fn called_by(name: &str, numbers: Numbers) -> Option<Call> {
     match (name, numbers) {
-        ("fetch", Numbers::One(address)) => Some(Call::Fetch(*address)),
-        ("load", Numbers::Two(address, size)) => Some(Call::Load(*address, width(*size)?)),
-        ("store", Numbers::Three(address, size, value)) => Some(Call::Store(
-            *address,
-            width(*size)?,
-            *value,
-        )),
-        ("tick", Numbers::One(count)) => Some(Call::Tick(*count)),
-        ("lines", Numbers::None) => Some(Call::Lines),
-        ("steady", Numbers::One(address)) => Some(Call::Steady(*address)),
-        ("feed", Numbers::One(byte)) => Some(Call::Feed(u8::try_from(*byte).ok()?)),
-        ("sent", Numbers::One(index)) => Some(Call::Sent(*index)),
+        ("fetch", [Some(address), None, None]) => Some(Call::Fetch(address)),
+        ("load", [Some(address), Some(size), None]) => Some(Call::Load(address, width(size)?)),
+        ("store", [Some(address), Some(size), Some(value)]) => {
+            Some(Call::Store(address, width(size)?, value))
+        }
+        ("tick", [Some(count), None, None]) => Some(Call::Tick(count)),
+        ("lines", [None, None, None]) => Some(Call::Lines),
+        ("steady", [Some(address), None, None]) => Some(Call::Steady(address)),
+        ("feed", [Some(byte), None, None]) => Some(Call::Feed(u8::try_from(byte).ok()?)),
+        ("sent", [Some(index), None, None]) => Some(Call::Sent(index)),
         _ => None,
     }
 }
@@ -111,15 +89,19 @@ pub(crate) fn parse(text: &str) -> Option<Line> {
     if name.starts_with('#') {
         return Some(Line::Blank);
     }
-    let numbers = read_numbers(words.next(), words.next(), words.next())?;
+    let numbers = [
+        number(words.next()).ok()?,
+        number(words.next()).ok()?,
+        number(words.next()).ok()?,
+    ];
     if words.next().is_some() {
         return None;
     }
     if name == "end" {
         return Some(Line::End);
     }
-    if let Some(make) = made_by(name, &numbers) {
+    if let Some(make) = made_by(name, numbers) {
         return Some(Line::Make(make));
     }
-    Some(Line::Call(called_by(name, &numbers)?))
+    called_by(name, numbers).map(Line::Call)
 }

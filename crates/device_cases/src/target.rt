@@ -1,16 +1,15 @@
 use crate::script::{Call, Make};
-use bus::{Bus, Fault, Feed, Split};
+use bus::{Bus, Fault, FeedRefusal, Lines, Split, feed_number};
 use devices::{Clint, Ram, Rom, Uart};
 use std::alloc::{AllocError, Global};
 use std::io;
 
-// CLINT below 0x10000000, UART below 0x80000000, RAM above.
+// CLINT below 0x10000000, UART below 0x80000000, RAM above. A board of its own, so small that a script meets every bound.
 pub type Board = Split<Clint, Split<Uart, Ram>>;
 
-// The bus that calls are made on.
+// The bus that calls are made on: an enum, since a boxed `Bus` could not be made here and handed on.
 #[derive(Drop)]
 pub enum Target {
-    None,
     Ram(Ram),
     Rom(Rom),
     Uart(Uart),
@@ -20,13 +19,7 @@ pub enum Target {
 
 // Bytes 1, 2, 3 and on.
 fn counted(heap: Global, len: u32) -> Result<Vec<u8>, AllocError> {
-    let mut bytes = Vec::new(heap);
-    let mut byte = 0u8;
-    for _ in 0..len {
-        byte = byte.wrapping_add(1);
-        bytes.push(byte)?;
-    }
-    Ok(bytes)
+    (1..=len).map(|i| (i % 256) as u8).collect(heap)
 }
 
 fn new_board(heap: Global) -> Result<Board, AllocError> {
@@ -61,7 +54,7 @@ impl Target {
                 let (_, ram) = rest.into_parts();
                 ram.into_bytes()
             }
-            Target::Clint(_) | Target::None => Vec::new(heap),
+            Target::Clint(_) => Vec::new(heap),
         }
     }
 
@@ -72,28 +65,31 @@ impl Target {
             Target::Uart(uart) => make_call(rt, uart, call),
             Target::Clint(clint) => make_call(rt, clint, call),
             Target::Board(board) => make_call(rt, board, call),
-            Target::None => rt.println("?"),
         }
     }
-}
-
-fn show_fault(rt: &impl Print, fault: Fault) -> io::Result<()> {
-    let cause = fault.cause.number();
-    let address = fault.address;
-    let device = fault.device.number();
-    let depth = fault.depth;
-    println!(rt; "fault cause {cause} address {address:08x} device {device} depth {depth}")
 }
 
 fn show_word(rt: &impl Print, answer: Result<u32, Fault>) -> io::Result<()> {
     match answer {
         Ok(word) => println!(rt; "word {word:08x}"),
-        Err(fault) => show_fault(rt, fault),
+        Err(fault) => println!(rt; "fault cause {fault}"),
     }
 }
 
-fn up(line: bool) -> u8 {
-    if line { 1 } else { 0 }
+fn show_lines(rt: &impl Print, lines: Lines) -> io::Result<()> {
+    let software = u8::from(lines.software);
+    let timer = u8::from(lines.timer);
+    let external = u8::from(lines.external);
+    println!(rt; "lines software {software} timer {timer} external {external}")
+}
+
+fn show_feed(rt: &impl Print, answer: Result<(), FeedRefusal>) -> io::Result<()> {
+    let number = feed_number(answer);
+    match answer {
+        Ok(()) => println!(rt; "taken {number}"),
+        Err(FeedRefusal::Overrun) => println!(rt; "overrun {number}"),
+        Err(FeedRefusal::NoReceiver) => println!(rt; "no receiver {number}"),
+    }
 }
 
 // Makes a call, and prints its answer.
@@ -102,36 +98,24 @@ fn make_call<B: Bus>(rt: &impl Print, bus: &mut B, call: Call) -> io::Result<()>
         Call::Fetch(address) => show_word(rt, bus.fetch(address)),
         Call::Load(address, width) => show_word(rt, bus.load(address, width)),
         Call::Store(address, width, value) => match bus.store(address, width, value) {
-            Ok(()) => rt.println("done"),
-            Err(fault) => show_fault(rt, fault),
+            Ok(()) => println!(rt; "done"),
+            Err(fault) => println!(rt; "fault cause {fault}"),
         },
         Call::Tick(count) => {
             for _ in 0..count {
                 bus.tick();
             }
-            rt.println("done")
+            println!(rt; "done")
         }
-        Call::Lines => {
-            let lines = bus.lines();
-            let software = up(lines.software);
-            let timer = up(lines.timer);
-            let external = up(lines.external);
-            println!(rt; "lines software {software} timer {timer} external {external}")
+        Call::Lines => show_lines(rt, bus.lines()),
+        Call::Steady(address) => {
+            let answer = if bus.steady(address) { "yes" } else { "no" };
+            println!(rt; "{answer}")
         }
-        Call::Steady(address) => rt.println(if bus.steady(address) { "yes" } else { "no" }),
         Call::Feed(byte) => show_feed(rt, bus.feed(byte)),
         Call::Sent(index) => match bus.sent(index as usize) {
             Some(byte) => println!(rt; "byte {byte:02x}"),
-            None => rt.println("none"),
+            None => println!(rt; "none"),
         },
-    }
-}
-
-fn show_feed(rt: &impl Print, feed: Feed) -> io::Result<()> {
-    let number = feed.number();
-    match feed {
-        Feed::Taken => println!(rt; "taken {number}"),
-        Feed::Overrun => println!(rt; "overrun {number}"),
-        Feed::NoReceiver => println!(rt; "no receiver {number}"),
     }
 }

@@ -1,22 +1,18 @@
 -- What RAM and ROM keep.
 use Rattle.std.proofs.Common.{◌≡◌, ℕ, ◌+◌, ◌%◌, ◌^◌, true, List, [], ◌∷◌, length, get_or, is_ok, Ok, Err, Result, refl, ap, ◌∙◌, inl, inr, ⊎_elim, arith}
 use Rattle.std.proofs.lemmas.Bool.{false≢true}
+use Rattle.std.proofs.lemmas.Grind.{common_steps}
 use Rattle.bus.specs.declared.access.Cause.{Cause}
 use Rattle.bus.specs.declared.access.Device.TheVariants.{Ram}
 use Rattle.bus.specs.declared.access.Width.{Width}
 use Rattle.bus.specs.Numbers.{size}
-use Rattle.bus.specs.Kind.{Answer}
-use Rattle.devices.specs.Device.{faulted, access}
+use Rattle.devices.specs.Device.{faulted}
 use Rattle.devices.specs.Memory.{Holding, served, place, write, read_by, read_at, ram, rom}
-use Rattle.devices.specs.Accesses.{write-length, write-out, read_out, read-in, place_ok, served-given, wrote, wrote-place}
+use Rattle.devices.specs.Accesses.{write-length, write-out, read_out, read-in, place_ok, served-given, stored, wrote-place}
 use Rattle.device_laws.specs.Runs.{Call, load, store, tick, feed, after_call, after, Each}
 use Rattle.device_laws.specs.Memories.{Apart, Misses, LastStored, NothingElseMoves, RomNeverChanges}
 
 module _ (m : Holding) (a : ℕ) (n : Width) (v : ℕ) where
-  -- what a store answers and leaves, by the place that it has
-  abbrev stored : Result ℕ Cause → Answer (Result (Unit {0}) Cause) Holding
-  stored r = access m r (λ i. record { value = tt; next = wrote m i n v })
-
   -- an access apart from a store at index i reads as before
   reads-apart : (i : ℕ) → place m a n ≡ Ok i → (b : ℕ) (k : Width) → Apart a (size n) b (size k) → (r : Result ℕ Cause) → place m b k ≡ r → read_by (write m.bytes i n v) k r ≡ read_by m.bytes k r
   reads-apart i e b k o (Err c) q = refl
@@ -25,27 +21,18 @@ module _ (m : Holding) (a : ℕ) (n : Width) (v : ℕ) where
       let t = (place_ok m.base (served m) b j k q).0 in
       ap Ok (read_out m.bytes i n v j k (⊎_elim (λ h. inl (omega arith)) (λ h. inr (omega arith)) o))
 
-  stays : (r : Result ℕ Cause) → place m a n ≡ r → ((stored r).next.base ≡ m.base) × (length (stored r).next.bytes ≡ length m.bytes)
-      × ((i : ℕ) → Apart a (size n) (m.base + i) 1 → get_or (stored r).next.bytes i 0 ≡ get_or m.bytes i 0)
-      × ((b : ℕ) (k : Width) → Apart a (size n) b (size k) → read_at (stored r).next b k ≡ read_at m b k)
+  stays : (r : Result ℕ Cause) → place m a n ≡ r → ((stored m n v r).next.base ≡ m.base) × (length (stored m n v r).next.bytes ≡ length m.bytes)
+      × ((i : ℕ) → Apart a (size n) (m.base + i) 1 → get_or (stored m n v r).next.bytes i 0 ≡ get_or m.bytes i 0)
+      × ((b : ℕ) (k : Width) → Apart a (size n) b (size k) → read_at (stored m n v r).next b k ≡ read_at m b k)
   stays (Err c) e = (refl, refl, λ i o. refl, λ b k o. refl)
-  stays (Ok j) e =
-      let p = (place_ok m.base (served m) a j n e).0 in (
-        refl,
-        write-length m.bytes j n v,
-        λ i o. write-out m.bytes j n v i (⊎_elim (λ h. inl (omega arith)) (λ h. inr (omega arith)) o),
-        λ b k o. ap (read_by (write m.bytes j n v) k) (wrote-place m j n v b k) ∙ reads-apart j e b k o (place m b k) refl,
-      )
+  stays (Ok j) e = grind (arith, common_steps, place_ok, write-length, write-out, wrote-place, reads-apart j)
 
-  there : (r : Result ℕ Cause) → place m a n ≡ r → is_ok (faulted Ram a (stored r).value) ≡ true → read_at (stored r).next a n ≡ Ok (v % 256 ^ size n)
+  there : (r : Result ℕ Cause) → place m a n ≡ r → is_ok (faulted Ram a (stored m n v r).value) ≡ true → read_at (stored m n v r).next a n ≡ Ok (v % 256 ^ size n)
   there (Err c) e h = absurd (false≢true h)
-  there (Ok i) e h =
-      let p = (place_ok m.base (served m) a i n e).1 in
-      let l = served-given m in
-      ap (read_by (write m.bytes i n v) n) (wrote-place m i n v a n ∙ e) ∙ ap Ok (read-in m.bytes i n v (omega arith))
+  there (Ok i) e h = grind (arith, place_ok, served-given, wrote-place, read-in)
 
-pub nothing-else-moves : NothingElseMoves
-nothing-else-moves m a n v =
+pub nothing_else_moves : NothingElseMoves
+nothing_else_moves m a n v =
     let s = stays m a n v (place m a n) refl in
     record { base = s.0; length = s.1; bytes = s.2; loads = λ b k o. ap (faulted Ram b) (s.3 b k o) }
 
@@ -70,7 +57,7 @@ rom-call (store a n v) m = refl
 rom-call tick m = refl
 rom-call (feed b) m = refl
 
-pub rom-never-changes : RomNeverChanges
+pub rom_stays : RomNeverChanges
 unfolding after
-rom-never-changes [] m = refl
-rom-never-changes (c ∷ cs) m = rom-never-changes cs (after_call rom c m) ∙ rom-call c m
+rom_stays [] m = refl
+rom_stays (c ∷ cs) m = rom_stays cs (after_call rom c m) ∙ rom-call c m

@@ -1,11 +1,10 @@
 -- Lists of calls on a bus of any kind, and a device's refusal in numbers.
-use Rattle.std.specs.Prelude.{ℕ, zero, suc, List, [], ◌∷◌, Err, Result}
-use Rattle.bus.specs.declared.access.Feed.{Feed}
-use Rattle.bus.specs.declared.access.Feed.TheVariants.{Taken, Overrun, NoReceiver}
+use Rattle.std.specs.Prelude.{ℕ, zero, suc, List, [], ◌∷◌, Ok, Err, Result}
 use Rattle.bus.specs.declared.access.Width.{Width}
 use Rattle.bus.specs.declared.access.Width.TheVariants.{Byte}
 use Rattle.bus.specs.Numbers.{FaultNumbers}
 use Rattle.bus.specs.Kind.{Kind}
+use Rattle.bus.specs.Split.{Fed}
 
 -- a refusal by the device itself, which no split has passed on
 abbrev pub refused : {R : Type 0} → ℕ → ℕ → ℕ → Result R FaultNumbers
@@ -35,10 +34,9 @@ module _ (K : Kind) where
   after [] m = m
   after (c ∷ cs) m = after cs (after_call c m)
 
-  abbrev pub if_taken : Feed → ℕ → List ℕ → List ℕ
-  if_taken Taken b bs = b ∷ bs
-  if_taken Overrun b bs = bs
-  if_taken NoReceiver b bs = bs
+  abbrev pub if_taken : Fed → ℕ → List ℕ → List ℕ
+  if_taken (Ok u) b bs = b ∷ bs
+  if_taken (Err e) b bs = bs
 
   -- those of the bytes fed that are taken
   unfoldable pub taken : List ℕ → K.Meaning → List ℕ

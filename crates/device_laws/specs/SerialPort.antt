@@ -1,57 +1,59 @@
 -- What goes in and out of the serial port, and its registers.
-use Rattle.std.specs.Prelude.{◌≡◌, ℕ, ◌+◌, ◌-◌, ◌%◌, ◌<◌, ◌≤◌, true, false, cond, ◌≢◌, ◌⊎◌, List, [], ◌∷◌, ◌++◌, map, length, take, is_ok, Some, None, Ok, nat_lt, slice_index}
+use Rattle.std.specs.Prelude.{◌≡◌, ℕ, ◌+◌, ◌-◌, ◌%◌, ◌<◌, ◌≤◌, true, false, ◌≢◌, ◌⊎◌, List, [], ◌∷◌, ◌++◌, map, length, take, is_ok, Some, None, Ok, nat_lt, slice_index, if◌then◌else◌}
 use Rattle.bus.specs.declared.access.Width.{Width}
 use Rattle.bus.specs.declared.access.Width.TheVariants.{Byte}
 use Rattle.bus.specs.Numbers.{size}
-use Rattle.devices.specs.Uart.{Serial, serial, receiving, uart, fresh}
+use Rattle.devices.specs.declared.uart.Uart.{Uart}
+use Rattle.devices.specs.Receiver.{receiving}
+use Rattle.devices.specs.Uart.{serial, uart, fresh}
 use Rattle.device_laws.specs.Runs.{store, feed, after, taken, loads, refused}
 
 -- the divisor latch is closed while bit 7 of register 3 is 0
-abbrev pub Closed : Serial → Type 0
+abbrev pub Closed : Uart → Type 0
 Closed m = m.registers.line_control < 128
 
 -- bytes are loaded in the order in which they were taken
 abbrev pub FirstInFirstOut : Type 0
 FirstInFirstOut =
-    (bs : List ℕ) (m : Serial) → Closed m →
+    (bs : List ℕ) (m : Uart) → Closed m →
     let all = m.receiver.queue ++ taken uart bs m in
     loads uart (length all) 0x10000000 (after uart (map feed bs) m) ≡ map Ok all
 
 -- 16 bytes can wait, or 1 while the queue is switched off
 abbrev pub RoomTakes : Type 0
-RoomTakes = (bs : List ℕ) (m : Serial) → length m.receiver.queue + length bs ≤ cond m.receiver.fifo 16 1 → taken uart bs m ≡ bs
+RoomTakes = (bs : List ℕ) (m : Uart) → length m.receiver.queue + length bs ≤ (if m.receiver.fifo then 16 else 1) → taken uart bs m ≡ bs
 
 -- and the next is lost and marked
 abbrev pub OverrunMarks : Type 0
 OverrunMarks =
-    (b : ℕ) (m : Serial) → cond m.receiver.fifo 16 1 ≤ length m.receiver.queue →
+    (b : ℕ) (m : Uart) → (if m.receiver.fifo then 16 else 1) ≤ length m.receiver.queue →
     (taken uart (b ∷ []) m ≡ []) × ((uart.feed m b).next ≡ serial (receiving m.receiver.queue m.receiver.fifo true) m.transmitter m.registers)
 
 -- the bytes sent stand in the order sent, as many as the console has room for
 abbrev pub SentInOrder : Type 0
 SentInOrder =
-    (bs : List ℕ) (m : Serial) → Closed m →
+    (bs : List ℕ) (m : Uart) → Closed m →
     (after uart (map (λ b. store 0x10000000 Byte b) bs) m).transmitter.console ≡ m.transmitter.console ++ map (λ b. b % 256) (take (m.transmitter.room - length m.transmitter.console) bs)
 
 -- and are answered by their number
-pub record Sent (m : Serial) (i : ℕ) : Type 0 where
+pub record Sent (m : Uart) (i : ℕ) : Type 0 where
   pub there : i < length m.transmitter.console → uart.sent m i ≡ Some (slice_index m.transmitter.console i)
   pub past : length m.transmitter.console ≤ i → uart.sent m i ≡ None
 
 -- register 2 and the external line: a byte waits and bit 0 of register 1 stands
-pub record Interrupts (m : Serial) : Type 0 where
-  pub up : 0 < length m.receiver.queue → m.registers.interrupt_enable % 2 ≡ 1 → ((uart.load m 0x10000002 Byte).value ≡ Ok (cond m.receiver.fifo 0xC4 4)) × ((uart.lines m).external ≡ true)
-  pub idle : m.receiver.queue ≡ [] → ((uart.load m 0x10000002 Byte).value ≡ Ok (cond m.receiver.fifo 0xC1 1)) × ((uart.lines m).external ≡ false)
-  pub masked : m.registers.interrupt_enable % 2 ≡ 0 → ((uart.load m 0x10000002 Byte).value ≡ Ok (cond m.receiver.fifo 0xC1 1)) × ((uart.lines m).external ≡ false)
+pub record Interrupts (m : Uart) : Type 0 where
+  pub up : 0 < length m.receiver.queue → m.registers.interrupt_enable % 2 ≡ 1 → ((uart.load m 0x10000002 Byte).value ≡ Ok (if m.receiver.fifo then 0xC4 else 4)) × ((uart.lines m).external ≡ true)
+  pub idle : m.receiver.queue ≡ [] → ((uart.load m 0x10000002 Byte).value ≡ Ok (if m.receiver.fifo then 0xC1 else 1)) × ((uart.lines m).external ≡ false)
+  pub masked : m.registers.interrupt_enable % 2 ≡ 0 → ((uart.load m 0x10000002 Byte).value ≡ Ok (if m.receiver.fifo then 0xC1 else 1)) × ((uart.lines m).external ≡ false)
   pub others : ((uart.lines m).software ≡ false) × ((uart.lines m).timer ≡ false)
 
 -- register 5: bit 0 a byte waits, bit 1 one was lost, bits 5 and 6 the console has room; the load clears bit 1 and nothing else
-pub record LineStatus (m : Serial) : Type 0 where
-  pub bits : (uart.load m 0x10000005 Byte).value ≡ Ok (cond (nat_lt 0 (length m.receiver.queue)) 1 0 + cond m.receiver.overrun 2 0 + cond (nat_lt (length m.transmitter.console) m.transmitter.room) 0x60 0)
+pub record LineStatus (m : Uart) : Type 0 where
+  pub bits : (uart.load m 0x10000005 Byte).value ≡ Ok ((if nat_lt 0 (length m.receiver.queue) then 1 else 0) + (if m.receiver.overrun then 2 else 0) + (if nat_lt (length m.transmitter.console) m.transmitter.room then 0x60 else 0))
   pub clears : (uart.load m 0x10000005 Byte).next ≡ serial (receiving m.receiver.queue m.receiver.fifo false) m.transmitter m.registers
 
 -- the queue switch, bit 0 of a store to register 2: a change empties the queue, and so does bit 1 together with it
-pub record Switch (m : Serial) (b : ℕ) : Type 0 where
+pub record Switch (m : Uart) (b : ℕ) : Type 0 where
   pub on : m.receiver.fifo ≡ false → b % 2 ≡ 1 → (uart.store m 0x10000002 Byte b).next ≡ serial (receiving [] true m.receiver.overrun) m.transmitter m.registers
   pub off : m.receiver.fifo ≡ true → b % 2 ≡ 0 → (uart.store m 0x10000002 Byte b).next ≡ serial (receiving [] false m.receiver.overrun) m.transmitter m.registers
   pub emptied : m.receiver.fifo ≡ true → b % 4 ≡ 3 → (uart.store m 0x10000002 Byte b).next ≡ serial (receiving [] true m.receiver.overrun) m.transmitter m.registers
@@ -59,11 +61,11 @@ pub record Switch (m : Serial) (b : ℕ) : Type 0 where
   pub stays_off : m.receiver.fifo ≡ false → b % 2 ≡ 0 → (uart.store m 0x10000002 Byte b).next ≡ m
 
 -- what was stored at an address is loaded there
-abbrev pub ReadsBack : Serial → ℕ → ℕ → ℕ → Type 0
+abbrev pub ReadsBack : Uart → ℕ → ℕ → ℕ → Type 0
 ReadsBack m a b v = (uart.load (uart.store m a Byte b).next a Byte).value ≡ Ok v
 
 -- the plain registers keep bytes, register 1 keeps four bits, register 6 reads 0, and registers 5 and 6 ignore stores
-pub record RegistersKeep (m : Serial) (b : ℕ) : Type 0 where
+pub record RegistersKeep (m : Uart) (b : ℕ) : Type 0 where
   pub interrupt_enable_reads : Closed m → ReadsBack m 0x10000001 b (b % 16)
   pub divisor_low_reads : (Closed m → ⊥) → ReadsBack m 0x10000000 b (b % 256)
   pub divisor_high_reads : (Closed m → ⊥) → ReadsBack m 0x10000001 b (b % 256)
@@ -76,7 +78,7 @@ pub record RegistersKeep (m : Serial) (b : ℕ) : Type 0 where
   pub status_stores : ((uart.store m 0x10000005 Byte b).next ≡ m) × ((uart.store m 0x10000006 Byte b).next ≡ m)
 
 abbrev pub PortRegisters : Type 0
-PortRegisters = (m : Serial) (b : ℕ) → Interrupts m × LineStatus m × Switch m b × RegistersKeep m b
+PortRegisters = (m : Uart) (b : ℕ) → Interrupts m × LineStatus m × Switch m b × RegistersKeep m b
 
 -- a fresh port: nothing waits, nothing was lost or sent, and every kept bit is 0
 pub record FreshPort (n : ℕ) : Type 0 where
@@ -91,7 +93,7 @@ pub record FreshPort (n : ℕ) : Type 0 where
   pub console : ((fresh n).transmitter.console ≡ []) × ((fresh n).transmitter.room ≡ n)
 
 -- bytes only, at the eight registers only, and no code: 3 before 1 before 4
-pub record Refuses (m : Serial) (a : ℕ) : Type 0 where
+pub record Refuses (m : Uart) (a : ℕ) : Type 0 where
   pub wide_load : (n : Width) → size n ≢ 1 → (uart.load m a n).value ≡ refused 3 a 3
   pub wide_store : (n : Width) (v : ℕ) → size n ≢ 1 → (uart.store m a n v).value ≡ refused 3 a 3
   pub unmapped_load : (a < 0x10000000) ⊎ (0x10000008 ≤ a) → (uart.load m a Byte).value ≡ refused 1 a 3
@@ -103,4 +105,4 @@ pub record Refuses (m : Serial) (a : ℕ) : Type 0 where
   pub no_code : a % 4 ≡ 0 → 0x10000000 ≤ a → a < 0x10000008 → uart.fetch m a ≡ refused 4 a 3
 
 abbrev pub UartRefuses : Type 0
-UartRefuses = (m : Serial) (a : ℕ) → Refuses m a
+UartRefuses = (m : Uart) (a : ℕ) → Refuses m a

@@ -1,6 +1,6 @@
 -- What a split does with each call.
 use Rattle.std.specs.Prelude.{◌≡◌, ℕ, ◌+◌, ◌*◌, ◌/◌, ◌<◌, ◌≤◌, min, ◌||◌, ◌≢◌, Some, None, Ok, Err, Result}
-use Rattle.bus.specs.declared.access.Feed.TheVariants.{NoReceiver}
+use Rattle.bus.specs.declared.access.FeedRefusal.TheVariants.{NoReceiver}
 use Rattle.bus.specs.declared.access.Width.{Width}
 use Rattle.bus.specs.Numbers.{FaultNumbers}
 use Rattle.bus.specs.Kind.{Kind}
@@ -48,7 +48,7 @@ module _ (L H : Kind) where
     pub software : ((split L H).lines m).software ≡ (L.lines m.low).software || (H.lines m.high).software
     pub timer : ((split L H).lines m).timer ≡ (L.lines m.low).timer || (H.lines m.high).timer
     pub external : ((split L H).lines m).external ≡ (L.lines m.low).external || (H.lines m.high).external
-    pub feed_low : (b : ℕ) → (L.feed m.low b).value ≢ NoReceiver → (((split L H).feed m b).value ≡ (L.feed m.low b).value) × (((split L H).feed m b).next.low ≡ (L.feed m.low b).next) × (((split L H).feed m b).next.high ≡ m.high)
-    pub feed_high : (b : ℕ) → (L.feed m.low b).value ≡ NoReceiver → (((split L H).feed m b).value ≡ (H.feed m.high b).value) × (((split L H).feed m b).next.low ≡ m.low) × (((split L H).feed m b).next.high ≡ (H.feed m.high b).next)
+    pub feed_low : (b : ℕ) → (L.feed m.low b).value ≢ Err NoReceiver → (((split L H).feed m b).value ≡ (L.feed m.low b).value) × (((split L H).feed m b).next.low ≡ (L.feed m.low b).next) × (((split L H).feed m b).next.high ≡ m.high)
+    pub feed_high : (b : ℕ) → (L.feed m.low b).value ≡ Err NoReceiver → (((split L H).feed m b).value ≡ (H.feed m.high b).value) × (((split L H).feed m b).next.low ≡ m.low) × (((split L H).feed m b).next.high ≡ (H.feed m.high b).next)
     pub sent_low : (i b : ℕ) → L.sent m.low i ≡ Some b → (split L H).sent m i ≡ Some b
     pub sent_high : (i : ℕ) → L.sent m.low i ≡ None → (split L H).sent m i ≡ H.sent m.high i

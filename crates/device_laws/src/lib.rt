@@ -6,18 +6,20 @@ ghost use Rattle.device_laws.specs.Memories.{LastStored, MemoriesServe, NothingE
 ghost use Rattle.device_laws.specs.SerialPort.{FirstInFirstOut, FreshPort, OverrunMarks, PortRegisters, RoomTakes, Sent, SentInOrder, UartRefuses};
 ghost use Rattle.device_laws.specs.Splits.{Both, PassesOn, Shares};
 ghost use Rattle.device_laws.specs.Timers.{ClintRefuses, FreshClock, LinesFollow, RegistersKeep, TicksCount};
-ghost use Rattle.devices.specs.Clint.{Timer};
-ghost use Rattle.devices.specs.Uart.{Serial};
+ghost use Rattle.devices.specs.declared.clint.Clint.{Clint};
+ghost use Rattle.devices.specs.declared.uart.Uart.{Uart};
 
 use bus::Bus;
 
 // RAM answers what was last stored, and a store moves nothing else.
+#[tactic(auto, using(crate::proofs::Memories::last_stored, crate::proofs::Memories::nothing_else_moves))]
 pub fn ram_keeps_what_was_stored()
     ensures stored { LastStored }
     ensures elsewhere { NothingElseMoves }
 {}
 
 // No list of calls changes a ROM.
+#[tactic(auto, using(crate::proofs::Memories::rom_stays))]
 pub fn rom_never_changes()
     ensures { RomNeverChanges }
 {}
@@ -28,6 +30,7 @@ pub fn memories_serve_whole_words()
 {}
 
 // Bytes are loaded in the order in which they were taken, 16 or 1 of them at a time, and the next is lost and marked.
+#[tactic(auto, using(crate::proofs::SerialPort::first_in_first_out, crate::proofs::SerialPort::room_takes, crate::proofs::SerialPort::overrun_marks))]
 pub fn uart_receives_in_order()
     ensures order { FirstInFirstOut }
     ensures room { RoomTakes }
@@ -35,9 +38,10 @@ pub fn uart_receives_in_order()
 {}
 
 // Sent bytes stand in the order sent, up to the console's room.
+#[tactic(auto, using(crate::proofs::SerialPort::sent_in_order))]
 pub fn uart_sends_in_order()
     ensures order { SentInOrder }
-    ensures numbers { (m : Serial) (i : ℕ) → Sent m i }
+    ensures numbers { (m : Uart) (i : ℕ) → Sent m i }
 {}
 
 // What each register of the UART reads and does, and what a fresh one reads.
@@ -48,13 +52,14 @@ pub fn uart_registers()
 {}
 
 // n ticks move the clock by n modulo 2^64.
+#[tactic(auto, using(crate::proofs::Timers::ticks_count))]
 pub fn clint_counts_ticks()
     ensures { TicksCount }
 {}
 
 // What each register of the CLINT reads and keeps, and how its lines follow.
 pub fn clint_registers()
-    ensures lines { (t : Timer) → LinesFollow t }
+    ensures lines { (t : Clint) → LinesFollow t }
     ensures registers { RegistersKeep }
     ensures fresh { FreshClock }
     ensures refuses { ClintRefuses }

@@ -1,13 +1,15 @@
 -- Reading and writing bytes of a memory, and the places that accesses have in it.
-use Rattle.std.specs.Prelude.{◌≡◌, ℕ, zero, suc, ◌+◌, ◌-◌, ◌%◌, ◌^◌, ◌<◌, ◌≤◌, min, true, ◌≢◌, ◌⊎◌, List, length, is_ok, Ok, Err, slice_index, slice_index_or, refl}
-use Rattle.std.proofs.Common.{ap, inl, inr, ⊎_elim, add-zero, add_assoc, arith}
+use Rattle.std.specs.Prelude.{◌≡◌, ℕ, ◌+◌, ◌-◌, ◌%◌, ◌^◌, ◌<◌, ◌≤◌, min, true, ◌≢◌, ◌⊎◌, List, length, is_ok, Ok, Err, Result, slice_index, refl}
+use Rattle.std.proofs.Common.{ap, arith}
 use Rattle.std.proofs.lemmas.Bool.Decides.{nat_tests}
 use Rattle.std.proofs.lemmas.Bool.{cases_lt, false≢true}
 use Rattle.std.proofs.lemmas.List.{get_or-set_same, get_or-set_other, length-set}
+use Rattle.bus.specs.declared.access.Cause.{Cause}
 use Rattle.bus.specs.declared.access.Width.{Width}
 use Rattle.bus.specs.declared.access.Width.TheVariants.{Byte, Half, Word}
 use Rattle.bus.specs.Numbers.{size}
-use Rattle.bus.specs.Kind.{word_of, part, patch}
+use Rattle.bus.specs.Kind.{Answer, word_of, part, patch}
+use Rattle.devices.specs.Device.{access}
 use Rattle.devices.specs.Memory.{Holding, holding, served, place_in, place, has_word, read, write}
 
 -- a write keeps the length, and every byte outside of it
@@ -23,17 +25,9 @@ write-out xs i Word v t o = grind (arith, get_or-set_other)
 
 -- so what is read apart from it is as before
 pub read_out : (xs : List ℕ) (j : ℕ) (n : Width) (v i : ℕ) (k : Width) → (i + size k ≤ j) ⊎ (j + size n ≤ i) → read (write xs j n v) i k ≡ read xs i k
-read_out xs j n v i Byte o = ap (λ x. x % 256) (write-out xs j n v i (⊎_elim (λ p. inl (omega arith)) inr o))
-read_out xs j n v i Half o =
-    let a : slice_index_or (write xs j n v) i 0 ≡ slice_index_or xs i 0 = write-out xs j n v i (⊎_elim (λ p. inl (omega arith)) inr o) in
-    let b = write-out xs j n v (i + 1) (⊎_elim (λ p. inl (omega arith)) (λ p. inr (omega arith)) o) in
-    rw (a, b)
-read_out xs j n v i Word o =
-    let a : slice_index_or (write xs j n v) i 0 ≡ slice_index_or xs i 0 = write-out xs j n v i (⊎_elim (λ p. inl (omega arith)) inr o) in
-    let b = write-out xs j n v (i + 1) (⊎_elim (λ p. inl (omega arith)) (λ p. inr (omega arith)) o) in
-    let c = write-out xs j n v (i + 2) (⊎_elim (λ p. inl (omega arith)) (λ p. inr (omega arith)) o) in
-    let d = write-out xs j n v (i + 3) (⊎_elim (λ p. inl (omega arith)) (λ p. inr (omega arith)) o) in
-    rw (a, b, c, d)
+read_out xs j n v i Byte o = grind (arith, write-out)
+read_out xs j n v i Half o = grind (arith, write-out)
+read_out xs j n v i Word o = grind (arith, write-out)
 
 -- and what was written is read there
 pub read-in : (xs : List ℕ) (i : ℕ) (n : Width) (v : ℕ) → i + size n ≤ length xs → read (write xs i n v) i n ≡ v % 256 ^ size n
@@ -43,35 +37,15 @@ read-in xs i Word v h = grind (arith, get_or-set_other, get_or-set_same, length-
 
 -- the bytes of a word from its byte k on
 pub part_of : (xs : List ℕ) (i k : ℕ) (n : Width) → k < 4 → k % size n ≡ 0 → read xs (i + k) n ≡ part (read xs i Word) k n
-part_of xs i zero Byte h e = simp add-zero (omega arith)
-part_of xs i zero Half h e = simp add-zero (omega arith)
-part_of xs i zero Word h e = simp add-zero (omega arith)
-part_of xs i (suc zero) Byte h e = omega arith
-part_of xs i (suc zero) Half h e = absurd (omega arith)
-part_of xs i (suc zero) Word h e = absurd (omega arith)
-part_of xs i (suc (suc zero)) Byte h e = omega arith
-part_of xs i (suc (suc zero)) Half h e = simp add_assoc (omega arith)
-part_of xs i (suc (suc zero)) Word h e = absurd (omega arith)
-part_of xs i (suc (suc (suc zero))) Byte h e = omega arith
-part_of xs i (suc (suc (suc zero))) Half h e = absurd (omega arith)
-part_of xs i (suc (suc (suc zero))) Word h e = absurd (omega arith)
-part_of xs i (suc (suc (suc (suc k)))) n h e = absurd (omega arith)
+part_of xs i k Byte h e = grind arith
+part_of xs i k Half h e = grind arith
+part_of xs i k Word h e = grind arith
 
 -- a word after a write from its byte k on
 pub patch-of : (xs : List ℕ) (i k : ℕ) (n : Width) (v : ℕ) → i + 4 ≤ length xs → k < 4 → k % size n ≡ 0 → read (write xs (i + k) n v) i Word ≡ patch (read xs i Word) k n v
-patch-of xs i zero Byte v l h e = simp add-zero (grind (arith, get_or-set_other, get_or-set_same, length-set))
-patch-of xs i zero Half v l h e = simp add-zero (grind (arith, get_or-set_other, get_or-set_same, length-set))
-patch-of xs i zero Word v l h e = simp add-zero (grind (arith, get_or-set_other, get_or-set_same, length-set))
-patch-of xs i (suc zero) Byte v l h e = grind (arith, get_or-set_other, get_or-set_same, length-set)
-patch-of xs i (suc zero) Half v l h e = absurd (omega arith)
-patch-of xs i (suc zero) Word v l h e = absurd (omega arith)
-patch-of xs i (suc (suc zero)) Byte v l h e = grind (arith, get_or-set_other, get_or-set_same, length-set)
-patch-of xs i (suc (suc zero)) Half v l h e = simp add_assoc (grind (arith, get_or-set_other, get_or-set_same, length-set))
-patch-of xs i (suc (suc zero)) Word v l h e = absurd (omega arith)
-patch-of xs i (suc (suc (suc zero))) Byte v l h e = grind (arith, get_or-set_other, get_or-set_same, length-set)
-patch-of xs i (suc (suc (suc zero))) Half v l h e = absurd (omega arith)
-patch-of xs i (suc (suc (suc zero))) Word v l h e = absurd (omega arith)
-patch-of xs i (suc (suc (suc (suc k)))) n v l h e = absurd (omega arith)
+patch-of xs i k Byte v l h e = grind (arith, get_or-set_other, get_or-set_same, length-set)
+patch-of xs i k Half v l h e = grind (arith, get_or-set_other, get_or-set_same, length-set)
+patch-of xs i k Word v l h e = grind (arith, get_or-set_other, get_or-set_same, length-set)
 
 pub word_below : (xs : List ℕ) (i : ℕ) → read xs i Word < 2 ^ 32
 word_below xs i = omega arith
@@ -91,9 +65,12 @@ place-in b len a i Word p q r = grind (arith, nat_tests)
 pub served-given : (m : Holding) → served m ≤ length m.bytes
 served-given m = omega arith
 
--- the memory after a write at index i
+-- the memory after a write at index i, and what a store answers and leaves, by the place that it has
 abbrev pub wrote : Holding → ℕ → Width → ℕ → Holding
 wrote m i n v = holding m.base (write m.bytes i n v)
+
+abbrev pub stored : Holding → Width → ℕ → Result ℕ Cause → Answer (Result (Unit {0}) Cause) Holding
+stored m n v r = access m r (λ i. record { value = tt; next = wrote m i n v })
 
 -- accesses have the same places after it
 pub wrote-place : (m : Holding) (i : ℕ) (n : Width) (v a : ℕ) (k : Width) → place (wrote m i n v) a k ≡ place m a k
@@ -105,9 +82,9 @@ word_at m x = elim (place m x Word) as (λ r. is_ok r ≡ true → (i : ℕ) × 
 
 -- an access inside a served word, so many bytes into it
 pub inside : (b len a i : ℕ) (n : Width) → place_in b len (word_of a) Word ≡ Ok i → a % size n ≡ 0 → place_in b len a n ≡ Ok (i + a % 4)
-inside b len a i Byte p d = let f = place_ok b len (word_of a) i Word p in place-in b len a (i + a % 4) Byte (omega arith) (omega arith) d
-inside b len a i Half p d = let f = place_ok b len (word_of a) i Word p in place-in b len a (i + a % 4) Half (omega arith) (omega arith) d
-inside b len a i Word p d = let f = place_ok b len (word_of a) i Word p in place-in b len a (i + a % 4) Word (omega arith) (omega arith) d
+inside b len a i Byte p d = grind (arith, place_ok, place-in)
+inside b len a i Half p d = grind (arith, place_ok, place-in)
+inside b len a i Word p d = grind (arith, place_ok, place-in)
 
 pub offset : (a : ℕ) (n : Width) → a % size n ≡ 0 → a % 4 % size n ≡ 0
 offset a Byte d = omega arith
@@ -116,6 +93,6 @@ offset a Word d = omega arith
 
 -- an access outside of a served word
 pub disjoint : (b len a x j i : ℕ) (n : Width) → place_in b len a n ≡ Ok j → place_in b len x Word ≡ Ok i → word_of a ≢ x → (i + 4 ≤ j) ⊎ (j + size n ≤ i)
-disjoint b len a x j i Byte p q ne = let f = place_ok b len a j Byte p in let g = place_ok b len x i Word q in ⊎_elim (λ o. inl (omega arith)) (λ o. inr (omega arith)) (cases_lt i j)
-disjoint b len a x j i Half p q ne = let f = place_ok b len a j Half p in let g = place_ok b len x i Word q in ⊎_elim (λ o. inl (omega arith)) (λ o. inr (omega arith)) (cases_lt i j)
-disjoint b len a x j i Word p q ne = let f = place_ok b len a j Word p in let g = place_ok b len x i Word q in ⊎_elim (λ o. inl (omega arith)) (λ o. inr (omega arith)) (cases_lt i j)
+disjoint b len a x j i Byte p q ne = grind (arith, place_ok, cases_lt i j)
+disjoint b len a x j i Half p q ne = grind (arith, place_ok, cases_lt i j)
+disjoint b len a x j i Word p q ne = grind (arith, place_ok, cases_lt i j)

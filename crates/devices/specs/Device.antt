@@ -3,16 +3,20 @@ use Rattle.std.specs.Prelude.{ℕ, Bool, false, Some, None, Ok, Err, Option, Res
 use Rattle.bus.specs.declared.access.Cause.{Cause}
 use Rattle.bus.specs.declared.access.Cause.TheVariants.{Unmapped, NoCode}
 use Rattle.bus.specs.declared.access.Device.{Device}
-use Rattle.bus.specs.declared.access.Feed.TheVariants.{NoReceiver}
+use Rattle.bus.specs.declared.access.FeedRefusal.TheVariants.{NoReceiver}
 use Rattle.bus.specs.declared.access.Lines.{Lines}
 use Rattle.bus.specs.declared.access.Width.{Width}
 use Rattle.bus.specs.Numbers.{cause_number, device_number, FaultNumbers}
 use Rattle.bus.specs.Kind.{Kind, Answer}
 
--- a device's answer at an address, its refusal as a fault with no split above it
+-- a refusal by a device at an address, with no split above it
+abbrev pub refusal : Device → ℕ → Cause → FaultNumbers
+refusal d a c = record { cause = cause_number c; address = a; device = device_number d; depth = 0 }
+
+-- a device's answer at an address, its refusal as a fault
 abbrev pub faulted : {R : Type 0} → Device → ℕ → Result R Cause → Result R FaultNumbers
 faulted d a (Ok x) = Ok x
-faulted d a (Err c) = Err (record { cause = cause_number c; address = a; device = device_number d; depth = 0 })
+faulted d a (Err c) = Err (refusal d a c)
 
 abbrev pub answered : {R M : Type 0} → Device → ℕ → Answer (Result R Cause) M → Answer (Result R FaultNumbers) M
 answered d a x = record { value = faulted d a x.value; next = x.next }
@@ -46,6 +50,6 @@ still M f l s y = record {
   tick = λ m. m;
   lines = λ m. down;
   steady = y;
-  feed = λ m b. record { value = NoReceiver; next = m };
+  feed = λ m b. record { value = Err NoReceiver; next = m };
   sent = λ m i. None;
 }

@@ -1,5 +1,5 @@
 -- RAM and ROM: bytes from a base address on.
-use Rattle.std.specs.Prelude.{ℕ, ◌+◌, ◌-◌, ◌*◌, ◌/◌, ◌%◌, ◌^◌, min, Bool, cond, ◌&&◌, List, length, is_ok, Ok, Err, vec_items, Result, ◌==◌, nat_le, slice_index, slice_set}
+use Rattle.std.specs.Prelude.{ℕ, ◌+◌, ◌-◌, ◌*◌, ◌/◌, ◌%◌, ◌^◌, min, Bool, true, false, ◌&&◌, List, length, is_ok, Ok, Err, Result, ◌==◌, nat_le, slice_index, slice_set, if◌then◌else◌}
 use Rattle.bus.specs.declared.access.Cause.{Cause}
 use Rattle.bus.specs.declared.access.Cause.TheVariants.{Unmapped, ReadOnly, Malformed}
 use Rattle.bus.specs.declared.access.Device.{Device}
@@ -8,9 +8,6 @@ use Rattle.bus.specs.declared.access.Width.{Width}
 use Rattle.bus.specs.declared.access.Width.TheVariants.{Byte, Half, Word}
 use Rattle.bus.specs.Numbers.{size}
 use Rattle.bus.specs.Kind.{Kind, Answer, word_of}
-use Rattle.devices.specs.declared.memory.Memory.{Memory}
-use Rattle.devices.specs.declared.ram.Ram.{Ram}
-use Rattle.devices.specs.declared.rom.Rom.{Rom}
 use Rattle.devices.specs.Device.{faulted, answered, access, still}
 
 -- what a memory holds: its base address, and all the bytes that it was given
@@ -21,22 +18,13 @@ pub record Holding : Type 0 where
 abbrev pub holding : ℕ → List ℕ → Holding
 holding b xs = record { base = b; bytes = xs }
 
-abbrev pub holding_of : Memory → Holding
-holding_of m = holding m.base (vec_items m.bytes)
-
-abbrev pub ram_of : Ram → Holding
-ram_of r = holding_of r.memory
-
-abbrev pub rom_of : Rom → Holding
-rom_of r = holding_of r.memory
-
 -- how many of the bytes are served: whole words that fit below 2^32
 abbrev pub served : Holding → ℕ
 served m = min (word_of (length m.bytes)) (2 ^ 32 - m.base)
 
 -- the index of an access's first byte among len bytes from a base on, or why it is refused
 abbrev pub place_in : ℕ → ℕ → ℕ → Width → Result ℕ Cause
-place_in base len a n = cond (a % size n == 0) (cond (nat_le base a && nat_le (a - base + size n) len) (Ok (a - base)) (Err Unmapped)) (Err Malformed)
+place_in base len a n = if a % size n == 0 then (if nat_le base a && nat_le (a - base + size n) len then Ok (a - base) else Err Unmapped) else Err Malformed
 
 abbrev pub place : Holding → ℕ → Width → Result ℕ Cause
 place m = place_in m.base (served m)
@@ -74,12 +62,17 @@ abbrev pub read_only : Result ℕ Cause → Result (Unit {0}) Cause
 read_only (Ok i) = Err ReadOnly
 read_only (Err c) = Err c
 
--- a memory whose fetches and loads read it, under a device's number
-abbrev pub memory_of : Device → (Holding → ℕ → Width → ℕ → Answer (Result (Unit {0}) Cause) Holding) → Kind
-memory_of d s = still Holding (λ m a. faulted d a (read_at m a Word)) (λ m a n. faulted d a (read_at m a n)) (λ m a n v. answered d a (s m a n v)) has_word
+-- a store: written, or refused by a memory that takes none
+abbrev pub store_at : Bool → Holding → ℕ → Width → ℕ → Answer (Result (Unit {0}) Cause) Holding
+store_at true m a n v = write_at m a n v
+store_at false m a n v = record { value = read_only (place m a n); next = m }
+
+-- a memory under a device's number, which takes stores or not; fetches and loads read it
+abbrev pub memory : Device → Bool → Kind
+memory d w = still Holding (λ m a. faulted d a (read_at m a Word)) (λ m a n. faulted d a (read_at m a n)) (λ m a n v. answered d a (store_at w m a n v)) has_word
 
 abbrev pub ram : Kind
-ram = memory_of RamDevice write_at
+ram = memory RamDevice true
 
 abbrev pub rom : Kind
-rom = memory_of RomDevice (λ m a n v. record { value = read_only (place m a n); next = m })
+rom = memory RomDevice false

@@ -1,9 +1,12 @@
-ghost use Rattle.std.specs.Prelude.{◌≡◌, ◌/◌, ◌%◌, ◌^◌};
-ghost use Rattle.devices.specs.Clint.{clint, fresh, read_of, register_at, register_for, timer_of, with_high, with_low, written};
+ghost use Rattle.std.specs.Prelude.{◌≡◌};
+ghost use Rattle.bus.specs.Numbers.{numbered};
+ghost use Rattle.bus.specs.declared.access.Device.TheVariants.{Clint as ClintDevice};
+ghost use Rattle.devices.specs.Clint.{clint, fresh, half_of, read_of, register_at, register_for, with_half, written};
+ghost use Rattle.devices.specs.Device.{faulted};
 ghost use Rattle.std.proofs.Common.{rules};
 
-use crate::refusal::refuse;
-use bus::{Bus, Cause, Device, Fault, Feed, Lines, Width};
+use crate::refusal::fault;
+use bus::{Bus, Cause, Device, Fault, FeedRefusal, Lines, Width};
 
 // The core-local interruptor: a software interrupt bit, and a clock with a time to compare it with.
 #[derive(Drop)]
@@ -13,14 +16,40 @@ pub struct Clint {
     mtime: u64,
 }
 
-// The word registers. The two of 64 bits are reached by halves.
+// The word registers: msip, and the halves of mtimecmp and mtime.
 #[derive(Clone, Copy)]
 pub(crate) enum Register {
     Software,
-    CompareLow,
-    CompareHigh,
-    TimeLow,
-    TimeHigh,
+    Compare(Half),
+    Time(Half),
+}
+
+// A half of a number of 64 bits.
+#[derive(Clone, Copy)]
+pub(crate) enum Half {
+    Low,
+    High,
+}
+
+impl Half {
+    fn of(self, x: u64) -> u32
+        ensures { result ≡ half_of self x }
+    {
+        match self {
+            Half::Low => (x % 0x1_0000_0000) as u32,
+            Half::High => (x / 0x1_0000_0000) as u32,
+        }
+    }
+
+    // The number with this half replaced.
+    fn put(self, x: u64, half: u32) -> u64
+        ensures { result ≡ with_half self x half }
+    {
+        match self {
+            Half::Low => x / 0x1_0000_0000 * 0x1_0000_0000 + u64::from(half),
+            Half::High => u64::from(half) * 0x1_0000_0000 + x % 0x1_0000_0000,
+        }
+    }
 }
 
 fn register_at(address: u32) -> Option<Register>
@@ -28,51 +57,28 @@ fn register_at(address: u32) -> Option<Register>
 {
     match address {
         0x0200_0000 => Some(Register::Software),
-        0x0200_4000 => Some(Register::CompareLow),
-        0x0200_4004 => Some(Register::CompareHigh),
-        0x0200_bff8 => Some(Register::TimeLow),
-        0x0200_bffc => Some(Register::TimeHigh),
+        0x0200_4000 => Some(Register::Compare(Half::Low)),
+        0x0200_4004 => Some(Register::Compare(Half::High)),
+        0x0200_bff8 => Some(Register::Time(Half::Low)),
+        0x0200_bffc => Some(Register::Time(Half::High)),
         _ => None,
     }
 }
 
-fn register_for(address: u32, width: Width) -> Result<Register, Cause>
-    ensures { result ≡ register_for address width }
+fn register_for(address: u32, width: Width) -> Result<Register, Fault>
+    ensures { numbered result ≡ faulted ClintDevice address (register_for address width) }
 {
-    match width {
+    let register = match width {
         Width::Word if address % 4 == 0 => register_at(address).ok_or(Cause::Unmapped),
         _ => Err(Cause::Malformed),
-    }
-}
-
-fn low_half(x: u64) -> u32
-    ensures { result ≡ x % 2 ^ 32 }
-{
-    (x % 0x1_0000_0000) as u32
-}
-
-fn high_half(x: u64) -> u32
-    ensures { result ≡ x / 2 ^ 32 }
-{
-    (x / 0x1_0000_0000) as u32
-}
-
-fn with_low(x: u64, half: u32) -> u64
-    ensures { result ≡ with_low x half }
-{
-    x / 0x1_0000_0000 * 0x1_0000_0000 + u64::from(half)
-}
-
-fn with_high(x: u64, half: u32) -> u64
-    ensures { result ≡ with_high x half }
-{
-    u64::from(half) * 0x1_0000_0000 + x % 0x1_0000_0000
+    };
+    register.map_err(|cause| fault(Device::Clint, address, cause))
 }
 
 impl Clint {
     // No interrupt is asked for, and the clock at 0 is as far from the time to compare with as can be.
     pub fn new() -> Self
-        ensures { timer_of result ≡ fresh }
+        ensures { result ≡ fresh }
     {
         Clint {
             msip: false,
@@ -82,26 +88,22 @@ impl Clint {
     }
 
     fn read(&self, register: Register) -> u32
-        ensures { result ≡ read_of (timer_of self.now) register }
+        ensures { result ≡ read_of self.now register }
     {
         match register {
             Register::Software => u32::from(self.msip),
-            Register::CompareLow => low_half(self.mtimecmp),
-            Register::CompareHigh => high_half(self.mtimecmp),
-            Register::TimeLow => low_half(self.mtime),
-            Register::TimeHigh => high_half(self.mtime),
+            Register::Compare(half) => half.of(self.mtimecmp),
+            Register::Time(half) => half.of(self.mtime),
         }
     }
 
     fn write(&mut self, register: Register, value: u32)
-        ensures { timer_of self.new ≡ written (timer_of self.old) register value }
+        ensures { self.new ≡ written self.old register value }
     {
         match register {
             Register::Software => self.msip = value % 2 == 1,
-            Register::CompareLow => self.mtimecmp = with_low(self.mtimecmp, value),
-            Register::CompareHigh => self.mtimecmp = with_high(self.mtimecmp, value),
-            Register::TimeLow => self.mtime = with_low(self.mtime, value),
-            Register::TimeHigh => self.mtime = with_high(self.mtime, value),
+            Register::Compare(half) => self.mtimecmp = half.put(self.mtimecmp, value),
+            Register::Time(half) => self.mtime = half.put(self.mtime, value),
         }
     }
 }
@@ -109,32 +111,24 @@ impl Clint {
 impl Bus for Clint {
     ghost kind = { clint };
 
-    ghost meaning = { timer_of };
+    ghost meaning = { λ c. c };
 
     ghost rules = { Prim.search rules };
 
     fn fetch(&self, address: u32) -> Result<u32, Fault> {
-        match register_for(address, Width::Word) {
-            Ok(_) => refuse(Device::Clint, address, Cause::NoCode),
-            Err(cause) => refuse(Device::Clint, address, cause),
-        }
+        register_for(address, Width::Word)?;
+        Err(fault(Device::Clint, address, Cause::NoCode))
     }
 
     fn load(&mut self, address: u32, width: Width) -> Result<u32, Fault> {
-        match register_for(address, width) {
-            Ok(register) => Ok(self.read(register)),
-            Err(cause) => refuse(Device::Clint, address, cause),
-        }
+        let register = register_for(address, width)?;
+        Ok(self.read(register))
     }
 
     fn store(&mut self, address: u32, width: Width, value: u32) -> Result<(), Fault> {
-        match register_for(address, width) {
-            Ok(register) => {
-                self.write(register, value);
-                Ok(())
-            }
-            Err(cause) => refuse(Device::Clint, address, cause),
-        }
+        let register = register_for(address, width)?;
+        self.write(register, value);
+        Ok(())
     }
 
     fn tick(&mut self) {
@@ -153,8 +147,8 @@ impl Bus for Clint {
         false
     }
 
-    fn feed(&mut self, _byte: u8) -> Feed {
-        Feed::NoReceiver
+    fn feed(&mut self, _byte: u8) -> Result<(), FeedRefusal> {
+        Err(FeedRefusal::NoReceiver)
     }
 
     fn sent(&self, _index: usize) -> Option<u8> {

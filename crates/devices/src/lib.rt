@@ -3,12 +3,9 @@
 
 mod clint;
 mod memory;
-mod ram;
 mod refusal;
-mod rom;
 mod uart;
 
 pub use clint::Clint;
-pub use ram::Ram;
-pub use rom::Rom;
+pub use memory::{Access, Memory, Ram, ReadOnly, Rom, Writable};
 pub use uart::Uart;

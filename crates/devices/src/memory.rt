@@ -1,12 +1,69 @@
-mod access;
+mod port;
+mod storage;
 
-ghost use Rattle.std.specs.Prelude.{◌≡◌, ◌-◌, ◌*◌, ◌/◌, ◌^◌, min, vec_len};
+ghost use Rattle.std.specs.Prelude.{Bool, false, true};
+ghost use Rattle.bus.specs.declared.access.Device.{Device};
+ghost use Rattle.bus.specs.declared.access.Device.TheVariants.{Ram as RamDevice, Rom as RomDevice};
+ghost use Rattle.devices.specs.Memory.{Holding, holding};
 
-// Bytes from a base address on. The first `len` are served: whole words, none past the end of the address space.
+use bus::Device;
+use std::marker::{Model, PhantomData};
+
+// What tells one memory from another.
+pub trait Access {
+    ghost DEVICE: { Device };
+
+    ghost WRITABLE: { Bool };
+
+    // The device that its faults name.
+    const DEVICE: Device;
+
+    // Whether it takes stores.
+    const WRITABLE: bool;
+}
+
+// The access of RAM.
+pub struct Writable;
+
+// The access of ROM, which refuses every store.
+pub struct ReadOnly;
+
+impl Access for Writable {
+    ghost DEVICE = { RamDevice };
+
+    ghost WRITABLE = { true };
+
+    const DEVICE: Device = Device::Ram;
+
+    const WRITABLE: bool = true;
+}
+
+impl Access for ReadOnly {
+    ghost DEVICE = { RomDevice };
+
+    ghost WRITABLE = { false };
+
+    const DEVICE: Device = Device::Rom;
+
+    const WRITABLE: bool = false;
+}
+
+// Bytes from a base address on. Whole words are served, none past the end of the address space.
 #[derive(Drop)]
-pub(crate) struct Memory {
+pub struct Memory<A: Access> {
     base: u32,
     bytes: Vec<u8>,
-    len: usize,
-    ghost served: { len ≡ min (vec_len bytes / 4 * 4) (2 ^ 32 - base) },
+    access: PhantomData<A>,
+}
+
+// Random-access memory.
+pub type Ram = Memory<Writable>;
+
+// Read-only memory.
+pub type Rom = Memory<ReadOnly>;
+
+impl<A: Access> Model for Memory<A> {
+    ghost Value = { Holding };
+
+    ghost view = { λ m. holding m.base m.bytes.items };
 }

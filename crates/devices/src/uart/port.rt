@@ -1,38 +1,34 @@
-ghost use Rattle.devices.specs.Uart.{fresh, identification, line_status, loaded, raised, register_for, register_of, seen, serial_of, stored, uart, with_receiver};
+ghost use Rattle.bus.specs.Numbers.{numbered};
+ghost use Rattle.bus.specs.declared.access.Device.TheVariants.{Uart as UartDevice};
+ghost use Rattle.devices.specs.Device.{faulted};
+ghost use Rattle.devices.specs.Receiver.{seen};
+ghost use Rattle.devices.specs.Uart.{fresh, identification, line_status, loaded, raised, register_for, register_of, stored, uart};
 ghost use Rattle.std.specs.Prelude.{◌≡◌, IfOk};
 ghost use Rattle.std.proofs.Common.{rules};
 
 use super::register::{Register, register_at};
 use super::{Receiver, Registers, Transmitter, Uart};
-use crate::refusal::refuse;
-use bus::{Bus, Cause, Device, Fault, Feed, Lines, Width};
+use crate::refusal::fault;
+use bus::{Bus, Cause, Device, Fault, FeedRefusal, Lines, Width};
 use std::alloc::{AllocError, Global};
 
 impl Uart {
     // A port that keeps the first `room` bytes sent. Its memory is allocated here, and none later.
     pub fn new(heap: Global, room: usize) -> Result<Self, AllocError>
-        ensures { IfOk result (λ u. serial_of u ≡ fresh room) }
+        ensures { IfOk result (λ u. u ≡ fresh room) }
     {
         let receiver = Receiver::new(heap)?;
         let transmitter = Transmitter::new(heap, room)?;
-        let registers = Registers {
-            interrupt_enable: 0,
-            divisor_low: 0,
-            divisor_high: 0,
-            line_control: 0,
-            modem_control: 0,
-            scratch: 0,
-        };
         Ok(Uart {
             receiver,
             transmitter,
-            registers,
+            registers: Registers::default(),
         })
     }
 
     // The bytes sent, in their order.
     pub fn into_console(self) -> Vec<u8>
-        ensures { result.items ≡ (serial_of self).transmitter.console }
+        ensures { result.items ≡ self.transmitter.console }
     {
         let Uart {
             receiver: _,
@@ -44,35 +40,31 @@ impl Uart {
 
     // Whether the external line is up: a byte waits, and its interrupt is enabled.
     fn raised(&self) -> bool
-        ensures { result ≡ raised (serial_of self.now) }
+        ensures { result ≡ raised self.now }
     {
         self.receiver.waits() && self.registers.interrupt_enable % 2 == 1
     }
 
     fn identification(&self) -> u8
-        ensures { result ≡ identification (serial_of self.now) }
+        ensures { result ≡ identification self.now }
     {
         let id = if self.raised() { 4 } else { 1 };
-        if self.receiver.has_fifo() {
-            id + 0xc0
-        } else {
-            id
-        }
+        id + 0xc0 * u8::from(self.receiver.has_fifo())
     }
 
     fn line_status(&mut self) -> u8
-        ensures value { result ≡ line_status (serial_of self.old) }
-        ensures next { serial_of self.new ≡ with_receiver (serial_of self.old) (seen (serial_of self.old).receiver) }
+        ensures value { result ≡ line_status self.old }
+        ensures next { self.new ≡ record self.old { receiver = seen self.old.receiver } }
     {
-        let waiting = if self.receiver.waits() { 1 } else { 0 };
-        let overrun = if self.receiver.take_overrun() { 2 } else { 0 };
-        let empty = if self.transmitter.has_room() { 0x60 } else { 0 };
-        waiting + overrun + empty
+        let waits = u8::from(self.receiver.waits());
+        let overrun = u8::from(self.receiver.take_overrun());
+        let has_room = u8::from(self.transmitter.has_room());
+        waits + 2 * overrun + 0x60 * has_room
     }
 
     fn read(&mut self, register: Register) -> u8
-        ensures value { result ≡ (loaded (serial_of self.old) register).value }
-        ensures next { serial_of self.new ≡ (loaded (serial_of self.old) register).next }
+        ensures value { result ≡ (loaded self.old register).value }
+        ensures next { self.new ≡ (loaded self.old register).next }
     {
         match register {
             Register::Data => self.receiver.take(),
@@ -89,7 +81,7 @@ impl Uart {
     }
 
     fn write(&mut self, register: Register, byte: u8)
-        ensures { serial_of self.new ≡ stored (serial_of self.old) register byte }
+        ensures { self.new ≡ stored self.old register byte }
     {
         match register {
             Register::Data => self.transmitter.send(byte),
@@ -105,18 +97,22 @@ impl Uart {
     }
 
     // Bit 7 of the line control register opens the divisor latch.
-    fn register_of(&self, address: u32) -> Result<Register, Cause>
-        ensures { result ≡ register_of (serial_of self.now) address }
+    fn register_of(&self, address: u32) -> Result<Register, Fault>
+        ensures { numbered result ≡ faulted UartDevice address (register_of self.now address) }
     {
-        register_at(self.registers.line_control >= 128, address).ok_or(Cause::Unmapped)
+        register_at(self.registers.line_control >= 128, address).ok_or(fault(
+            Device::Uart,
+            address,
+            Cause::Unmapped,
+        ))
     }
 
-    fn register_for(&self, address: u32, width: Width) -> Result<Register, Cause>
-        ensures { result ≡ register_for (serial_of self.now) address width }
+    fn register_for(&self, address: u32, width: Width) -> Result<Register, Fault>
+        ensures { numbered result ≡ faulted UartDevice address (register_for self.now address width) }
     {
         match width {
             Width::Byte => self.register_of(address),
-            Width::Half | Width::Word => Err(Cause::Malformed),
+            Width::Half | Width::Word => Err(fault(Device::Uart, address, Cause::Malformed)),
         }
     }
 }
@@ -124,35 +120,27 @@ impl Uart {
 impl Bus for Uart {
     ghost kind = { uart };
 
-    ghost meaning = { serial_of };
+    ghost meaning = { λ u. u };
 
     ghost rules = { Prim.search rules };
 
     fn fetch(&self, address: u32) -> Result<u32, Fault> {
         if address % 4 != 0 {
-            return refuse(Device::Uart, address, Cause::Malformed);
+            return Err(fault(Device::Uart, address, Cause::Malformed));
         }
-        match self.register_of(address) {
-            Ok(_) => refuse(Device::Uart, address, Cause::NoCode),
-            Err(cause) => refuse(Device::Uart, address, cause),
-        }
+        self.register_of(address)?;
+        Err(fault(Device::Uart, address, Cause::NoCode))
     }
 
     fn load(&mut self, address: u32, width: Width) -> Result<u32, Fault> {
-        match self.register_for(address, width) {
-            Ok(register) => Ok(u32::from(self.read(register))),
-            Err(cause) => refuse(Device::Uart, address, cause),
-        }
+        let register = self.register_for(address, width)?;
+        Ok(u32::from(self.read(register)))
     }
 
     fn store(&mut self, address: u32, width: Width, value: u32) -> Result<(), Fault> {
-        match self.register_for(address, width) {
-            Ok(register) => {
-                self.write(register, (value % 256) as u8);
-                Ok(())
-            }
-            Err(cause) => refuse(Device::Uart, address, cause),
-        }
+        let register = self.register_for(address, width)?;
+        self.write(register, (value % 256) as u8);
+        Ok(())
     }
 
     fn tick(&mut self) {}
@@ -169,7 +157,7 @@ impl Bus for Uart {
         false
     }
 
-    fn feed(&mut self, byte: u8) -> Feed {
+    fn feed(&mut self, byte: u8) -> Result<(), FeedRefusal> {
         self.receiver.receive(byte)
     }
 
