@@ -2,6 +2,7 @@
 #![tactic(auto)]
 
 mod laws;
+mod place;
 mod row;
 mod slot;
 mod store;

@@ -1,7 +1,10 @@
 -- The places of the table hold what the listing tells of a word.
-use Rattle.std.proofs.Common.{◌≡◌, ℕ, ◌+◌, ◌*◌, ◌/◌, ◌%◌, ◌<◌, Bool, true, false, ◌&&◌, ◌||◌, eqb, List, [], ◌∷◌, sym, refl, ap, ◌∙◌, arith}
+use Rattle.std.proofs.Common.{◌≡◌, ℕ, ◌%◌, ◌<◌, Bool, true, false, ◌&&◌, ◌||◌, eqb, List, [], ◌∷◌, map, get_or, sym, refl, ap, ◌∙◌, arith}
+use Rattle.std.specs.List.{range_with_len}
+use Rattle.std.proofs.lemmas.List.FromFn.{get_or-map-range_with_len}
 use Rattle.std.proofs.lemmas.Bool.{ne_eqb, and_parts, eqb-true}
 use Rattle.std.proofs.lemmas.Bool.Decides.{nat_tests}
+use Rattle.isa.specs.declared.kind.Kind.{Kind}
 use Rattle.isa.specs.declared.kind.Kind.TheVariants.{Unknown}
 use Rattle.isa.specs.Listing.{Ask, any, is, meets, Line, listing, listed, kind_of, class_of, sample, kind_at}
 
@@ -31,11 +34,12 @@ abbrev plain : List Line → Bool
 plain [] = true
 plain (l ∷ ls) = usual l.f7 && plain ls
 
-same-ask : (a : Ask) → usual a ≡ true → (n : ℕ) → meets a n ≡ meets a (sample (class_of n))
+same-ask : (a : Ask) → usual a ≡ true → (n : ℕ) → meets a (sample (class_of n)) ≡ meets a n
+unfolding class_of sample
 same-ask any t n = refl
 same-ask (is k) t n = grind (arith, nat_tests)
 
-same-listed : (ls : List Line) → plain ls ≡ true → (o f n : ℕ) → listed ls o f n ≡ listed ls o f (sample (class_of n))
+same-listed : (ls : List Line) → plain ls ≡ true → (o f n : ℕ) → listed ls o f (sample (class_of n)) ≡ listed ls o f n
 same-listed [] t o f n = refl
 same-listed (l ∷ ls) t o f n =
     let p = and_parts (usual l.f7) (plain ls) t in
@@ -43,13 +47,25 @@ same-listed (l ∷ ls) t o f n =
     let r = same-listed ls p.1 o f n in
     cc
 
-by-class : (o f n : ℕ) → kind_of o f n ≡ kind_of o f (sample (class_of n))
+-- a kind by the class of f7 alone
+pub by_class : (o f n : ℕ) → kind_of o f (sample (class_of n)) ≡ kind_of o f n
 unfolding kind_of
-by-class o f n = same-listed listing refl o f n
+by_class o f n = same-listed listing refl o f n
 
-pub class-below : (n : ℕ) → class_of n < 4
-class-below n = grind (arith, nat_tests)
+pub class_below : (n : ℕ) → class_of n < 4
+unfolding class_of
+class_below n = grind (arith, nat_tests)
 
--- the entry at the place of these fields
-pub at_place : (i o f n : ℕ) → i / 32 * 4 + 3 ≡ o → i / 4 % 8 ≡ f → i % 4 ≡ class_of n → kind_at i ≡ kind_of o f n
-at_place i o f n p q r = let e = by-class o f n in cc
+-- the listing's kinds as a table
+abbrev by_f7 : ℕ → ℕ → List Kind
+by_f7 o f = map (kind_at o f) (range_with_len 0 4)
+
+abbrev by_f3 : ℕ → List (List Kind)
+by_f3 o = map (by_f7 o) (range_with_len 0 8)
+
+pub entries : (o f c : ℕ) (k : List (List Kind)) (l : List Kind) (m : Kind) → o < 32 → f < 8 → c < 4
+    → get_or (get_or (get_or (map by_f3 (range_with_len 0 32)) o k) f l) c m ≡ kind_at o f c
+entries o f c k l m p q r =
+    ap (λ (x : List (List Kind)). get_or (get_or x f l) c m) (get_or-map-range_with_len by_f3 0 32 o o k p (omega arith))
+    ∙ ap (λ (x : List Kind). get_or x c m) (get_or-map-range_with_len (by_f7 o) 0 8 f f l q (omega arith))
+    ∙ get_or-map-range_with_len (kind_at o f) 0 4 c c m r (omega arith)

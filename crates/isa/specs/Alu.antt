@@ -1,26 +1,25 @@
 -- What the operations of RV32IM compute: from two words, a word.
-use Rattle.std.specs.Prelude.{ℕ, ◌+◌, ◌-◌, ◌*◌, ◌/◌, ◌%◌, ◌^◌, Bool, cond, ℤ, pos, ◌*ℤ◌, ◌==◌, bit_and, bit_or, bit_xor, int_div, int_lt, int_rem, nat_lt}
+use Rattle.std.specs.Prelude.{ℕ, ◌+◌, ◌-◌, ◌*◌, ◌/◌, ◌%◌, ◌^◌, Bool, if◌then◌else◌, ℤ, pos, ◌*ℤ◌, ◌==◌, bit_and, bit_or, bit_xor, int_div, int_lt, int_rem, nat_lt}
 use Rattle.std.specs.Int.Signed.{shr_z}
-use Rattle.std.specs.Int.{w32, w64}
-use Rattle.std.proofs.Common.{to_z, of_z}
+use Rattle.std.specs.Int.{w32, w64, cast_signed, cast_unsigned}
 use Rattle.isa.specs.declared.alu.AluOp.{AluOp}
 use Rattle.isa.specs.declared.alu.AluOp.TheVariants.{Add, Sub, Sll, Slt, Sltu, Xor, Srl, Sra, Or, And, Mul, Mulh, Mulhsu, Mulhu, Div, Divu, Rem, Remu}
 
 -- a word read as a signed number, in two's complement
 abbrev pub signed : ℕ → ℤ
-signed n = to_z w32 n
+signed n = cast_signed w32 n
 
 -- the word of a signed number
 abbrev pub word_of : ℤ → ℕ
-word_of z = of_z w32 z
+word_of z = cast_unsigned w32 z
 
 -- the upper word of a signed number of 64 bits
 abbrev pub upper : ℤ → ℕ
-upper z = of_z w64 z / 2 ^ 32
+upper z = cast_unsigned w64 z / 2 ^ 32
 
 -- a truth value as a word
 abbrev pub flag : Bool → ℕ
-flag b = cond b 1 0
+flag b = if b then 1 else 0
 
 -- the result of an operation on two words
 abbrev pub alu_result : AluOp → ℕ → ℕ → ℕ
@@ -38,7 +37,7 @@ alu_result Mul a b = (a * b) % 2 ^ 32
 alu_result Mulh a b = upper (signed a *ℤ signed b)
 alu_result Mulhsu a b = upper (signed a *ℤ pos b)
 alu_result Mulhu a b = a * b / 2 ^ 32
-alu_result Div a b = cond (b == 0) (2 ^ 32 - 1) (word_of (int_div (signed a) (signed b)))
-alu_result Divu a b = cond (b == 0) (2 ^ 32 - 1) (a / b)
-alu_result Rem a b = cond (b == 0) a (word_of (int_rem (signed a) (signed b)))
-alu_result Remu a b = cond (b == 0) a (a % b)
+alu_result Div a b = if b == 0 then 2 ^ 32 - 1 else word_of (int_div (signed a) (signed b))
+alu_result Divu a b = if b == 0 then 2 ^ 32 - 1 else a / b
+alu_result Rem a b = if b == 0 then a else word_of (int_rem (signed a) (signed b))
+alu_result Remu a b = if b == 0 then a else a % b

@@ -1,5 +1,5 @@
 -- The instruction that a word encodes.
-use Rattle.std.specs.Prelude.{ℕ, cond, ◌==◌}
+use Rattle.std.specs.Prelude.{ℕ, if◌then◌else◌, ◌==◌}
 use Rattle.isa.specs.declared.kind.Kind.{Kind}
 use Rattle.isa.specs.declared.kind.Kind.TheVariants.{Lui, Auipc, Jal, Jalr, Branch, Load, Store, Immediate, Shift, Op, Csr, CsrImmediate, Fence, FenceI, System, Unknown}
 use Rattle.isa.specs.declared.instruction.Instruction.{Instruction}
@@ -14,10 +14,10 @@ word_kind w = kind_of (opcode w) (f3 w) (f7 w)
 -- the words with opcode 0x73 and f3 0
 abbrev pub system_of : ℕ → Instruction
 system_of w =
-    cond (w == 0x00000073) to.Ecall
-    (cond (w == 0x00100073) to.Ebreak
-    (cond (w == 0x30200073) to.Mret
-    (cond (w == 0x10500073) to.Wfi to.Unknown)))
+    if w == 0x00000073 then to.Ecall
+    else if w == 0x00100073 then to.Ebreak
+    else if w == 0x30200073 then to.Mret
+    else if w == 0x10500073 then to.Wfi else to.Unknown
 
 -- the immediate of a word, by the format of its kind; a shift's amount stands in the place of rs2
 abbrev pub imm_of : Kind → ℕ → ℕ

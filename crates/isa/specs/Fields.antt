@@ -1,5 +1,5 @@
 -- The fields of an instruction word, and its immediates by format.
-use Rattle.std.specs.Prelude.{ℕ, ◌+◌, ◌-◌, ◌*◌, ◌/◌, ◌%◌, ◌^◌, cond, nat_lt}
+use Rattle.std.specs.Prelude.{ℕ, ◌+◌, ◌-◌, ◌*◌, ◌/◌, ◌%◌, ◌^◌, if◌then◌else◌, nat_lt}
 
 -- n bits of a word, from bit i up
 abbrev pub bits : ℕ → ℕ → ℕ → ℕ
@@ -35,7 +35,7 @@ csr w = bits w 20 12
 
 -- a number as a word, where its top bit, of the value given, is its sign
 abbrev pub sign_extended : ℕ → ℕ → ℕ
-sign_extended sign n = cond (nat_lt n sign) n (n + (2 ^ 32 - 2 * sign))
+sign_extended sign n = if nat_lt n sign then n else n + (2 ^ 32 - 2 * sign)
 
 -- imm[11:0] in bits 31 to 20
 abbrev pub imm_i : ℕ → ℕ

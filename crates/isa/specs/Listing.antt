@@ -1,5 +1,5 @@
 -- The listing of RV32I, Zifencei, Zicsr and M, and the kinds that it gives.
-use Rattle.std.specs.Prelude.{ℕ, ◌+◌, ◌*◌, ◌/◌, ◌%◌, Bool, true, cond, ◌&&◌, List, [], ◌∷◌, ◌==◌}
+use Rattle.std.specs.Prelude.{ℕ, ◌+◌, ◌*◌, Bool, true, if◌then◌else◌, ◌&&◌, List, [], ◌∷◌, ◌==◌}
 use Rattle.isa.specs.declared.alu.AluOp.TheVariants.{Add, Sub, Sll, Slt, Sltu, Xor, Srl, Sra, Or, And, Mul, Mulh, Mulhsu, Mulhu, Div, Divu, Rem, Remu}
 use Rattle.isa.specs.declared.branch.Condition.TheVariants as condition
 use Rattle.isa.specs.declared.kind.CsrOp.TheVariants as csr
@@ -91,20 +91,20 @@ listing =
 -- the kind of the first line that the fields meet
 abbrev pub listed : List Line → ℕ → ℕ → ℕ → Kind
 listed [] o f g = k.Unknown
-listed (l ∷ ls) o f g = cond (l.opcode == o && (meets l.f3 f && meets l.f7 g)) l.kind (listed ls o f g)
+listed (l ∷ ls) o f g = if l.opcode == o && (meets l.f3 f && meets l.f7 g) then l.kind else listed ls o f g
 
 -- the kind of the words with an opcode, f3 and f7
 unfoldable pub kind_of : ℕ → ℕ → ℕ → Kind
 kind_of o f g = listed listing o f g
 
 -- the class of f7
-abbrev pub class_of : ℕ → ℕ
-class_of g = cond (g == 0) 0 (cond (g == 1) 1 (cond (g == 0x20) 2 3))
+unfoldable pub class_of : ℕ → ℕ
+class_of g = if g == 0 then 0 else if g == 1 then 1 else if g == 0x20 then 2 else 3
 
 -- a value of f7 in each class
-abbrev pub sample : ℕ → ℕ
-sample c = cond (c == 0) 0 (cond (c == 1) 1 (cond (c == 2) 0x20 2))
+unfoldable pub sample : ℕ → ℕ
+sample c = if c == 0 then 0 else if c == 1 then 1 else if c == 2 then 0x20 else 2
 
--- the table's rule, at the place (bits 6 to 2) * 32 + f3 * 4 + class: the listing's kind for these fields
-abbrev pub kind_at : ℕ → Kind
-kind_at i = kind_of (i / 32 * 4 + 3) (i / 4 % 8) (sample (i % 4))
+-- the table's rule, by bits 6 to 2, f3 and class: the listing's kind for these fields
+abbrev pub kind_at : (o f c : ℕ) → Kind
+kind_at o f c = kind_of (o * 4 + 3) f (sample c)

@@ -2,7 +2,7 @@
 ghost use Rattle.std.specs.Prelude.{◌≡◌};
 ghost use Rattle.isa.specs.Alu.{alu_result, upper};
 
-#[derive(Clone, Copy)]
+#[derive(Clone, Copy, PartialEq, Debug)]
 pub enum AluOp {
     Add,
     Sub,
@@ -59,6 +59,7 @@ fn upper_word(product: i64) -> u32
     (product.cast_unsigned() >> 32) as u32
 }
 
+// One function for each instruction of the manual: `mulhsu` differs in how it reads b, and a flag for that would say less than its name.
 fn mulh(a: u32, b: u32) -> u32
     ensures { result ≡ alu_result AluOp.Mulh a b }
 {
@@ -78,6 +79,7 @@ fn mulhu(a: u32, b: u32) -> u32
 }
 
 // Division by zero answers all ones; the quotient that does not fit wraps to the dividend.
+// `checked_div` would be no plainer: it answers `None` to a divisor of zero and to that quotient, and the two answers differ.
 fn div(a: u32, b: u32) -> u32
     ensures { result ≡ alu_result AluOp.Div a b }
 {
@@ -93,10 +95,10 @@ fn div(a: u32, b: u32) -> u32
 fn divu(a: u32, b: u32) -> u32
     ensures { result ≡ alu_result AluOp.Divu a b }
 {
-    if b == 0 { u32::MAX } else { a / b }
+    a.checked_div(b).unwrap_or(u32::MAX)
 }
 
-// The remainder by zero is the dividend; it has the dividend's sign.
+// The remainder by zero is the dividend; it has the dividend's sign. `checked_rem` would be no plainer, as `checked_div`.
 fn rem(a: u32, b: u32) -> u32
     ensures { result ≡ alu_result AluOp.Rem a b }
 {
@@ -112,5 +114,5 @@ fn rem(a: u32, b: u32) -> u32
 fn remu(a: u32, b: u32) -> u32
     ensures { result ≡ alu_result AluOp.Remu a b }
 {
-    if b == 0 { a } else { a % b }
+    a.checked_rem(b).unwrap_or(a)
 }

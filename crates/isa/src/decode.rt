@@ -3,7 +3,7 @@ ghost use Rattle.std.specs.Prelude.{◌≡◌, ◌<◌};
 ghost use Rattle.isa.specs.Listing.{kind_at, class_of};
 ghost use Rattle.isa.specs.Decode.{word_kind, system_of, imm_of, decoded};
 
-use crate::fields;
+use crate::fields::{self, RD, RS1, RS2, bits};
 use crate::instruction::Instruction;
 use crate::kind::Kind;
 use crate::table::KINDS;
@@ -13,9 +13,9 @@ pub fn decode(word: u32) -> Instruction
     ensures { result ≡ decoded word }
 {
     let kind = kind_of(word);
-    let rd = fields::rd(word);
-    let rs1 = fields::rs1(word);
-    let rs2 = fields::rs2(word);
+    let rd = fields::register(word, RD);
+    let rs1 = fields::register(word, RS1);
+    let rs2 = fields::register(word, RS2);
     let imm = immediate(kind, word);
     let csr = fields::csr(word);
     match kind {
@@ -52,32 +52,39 @@ fn immediate(kind: Kind, word: u32) -> u32
         Kind::Jalr | Kind::Load(_) | Kind::Immediate(_) => fields::immediate_i(word),
         Kind::Branch(_) => fields::immediate_b(word),
         Kind::Store(_) => fields::immediate_s(word),
-        Kind::Shift(_) => u32::from(fields::rs2(word)),
+        Kind::Shift(_) => u32::from(fields::register(word, RS2)),
         _ => 0,
     }
 }
 
 // The kind of a word: the table's, where the low two bits are 11.
+#[tactic(auto, using(crate::proofs::Places::unknown, crate::proofs::Places::class_below))]
 pub fn kind_of(word: u32) -> Kind
     ensures { result ≡ word_kind word }
 {
-    if word % 4 != 3 {
+    if bits(word, 0, 2) != 3 {
         return Kind::Unknown;
     }
-    let index = (word >> 2) % 32 * 32 + (word >> 12) % 8 * 4 + class(word >> 25);
-    entry(index as usize)
+    entry(
+        bits(word, 2, 5) as usize,
+        bits(word, 12, 3) as usize,
+        class(bits(word, 25, 7)),
+    )
 }
 
 // An entry of the table. Its contract is the table's rule, at every place.
-fn entry(index: usize) -> Kind
-    requires { index < 1024 }
-    ensures { result ≡ kind_at index }
+fn entry(opcode: usize, f3: usize, class: usize) -> Kind
+    requires opcode { opcode < 32 }
+    requires f3 { f3 < 8 }
+    requires class { class < 4 }
+    ensures { result ≡ kind_at opcode f3 class }
 {
-    KINDS[index]
+    KINDS[opcode][f3][class]
 }
 
 // The class of f7.
-fn class(f7: u32) -> u32
+#[tactic(auto, unfolding(crate::specs::Listing::class_of))]
+fn class(f7: u32) -> usize
     ensures { result ≡ class_of f7 }
 {
     match f7 {

@@ -1,9 +1,11 @@
-// Decoded instructions: registers by number, immediates as words, control registers by number.
+// Decoded instructions: registers by number, immediates as words. A control register is a number and no enum: a word with any number
+// decodes, and which of them exist is for the hart to say.
+// A word that is none is `Unknown`, and no `None`: a hart executes it like the others, by a trap, so an Option would be no plainer.
 use crate::alu::AluOp;
 use crate::branch::Condition;
 use crate::kind::{CsrOp, Load, Store};
 
-#[derive(Clone, Copy)]
+#[derive(Clone, Copy, PartialEq, Debug)]
 pub enum Instruction {
     Lui {
         rd: u8,

@@ -3,7 +3,8 @@ use crate::alu::AluOp;
 use crate::branch::Condition;
 
 // What a load brings, and how it fills the register.
-#[derive(Clone, Copy)]
+// As a width and a flag for the sign it would be no plainer: a word has no sign to choose, so one of the six pairs would mean nothing.
+#[derive(Clone, Copy, PartialEq, Debug)]
 pub enum Load {
     Byte,
     Half,
@@ -12,7 +13,8 @@ pub enum Load {
     HalfUnsigned,
 }
 
-#[derive(Clone, Copy)]
+// It has the cases of the bus's `Width`; one type for both would make one of the two crates depend on the other.
+#[derive(Clone, Copy, PartialEq, Debug)]
 pub enum Store {
     Byte,
     Half,
@@ -20,7 +22,7 @@ pub enum Store {
 }
 
 // What becomes of a control register.
-#[derive(Clone, Copy)]
+#[derive(Clone, Copy, PartialEq, Debug)]
 pub enum CsrOp {
     Write,
     Set,
@@ -48,5 +50,6 @@ pub enum Kind {
     FenceI,
     // ECALL, EBREAK, MRET, WFI or none: the whole word tells.
     System,
+    // A word on no line of the listing: a case and no `None`, as in `Instruction`.
     Unknown,
 }

@@ -164,8 +164,8 @@ fence-rows : (g : ℕ) → (kind_of 0x0f 0 g ≡ k.Fence) × (kind_of 0x0f 1 g �
 unfolding kind_of
 fence-rows g = (refl, refl)
 
-pub fences-ignore-fields : FencesIgnoreFields
-fences-ignore-fields w e =
+pub fences_ignore_fields : FencesIgnoreFields
+fences_ignore_fields w e =
     let o : opcode w ≡ 0x0f = omega arith in (
       λ h. by_kind w k.Fence 0x0f 0 (f7 w) o h refl (fence-rows (f7 w)).0,
       λ h. by_kind w k.FenceI 0x0f 1 (f7 w) o h refl (fence-rows (f7 w)).1,

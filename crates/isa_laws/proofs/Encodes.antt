@@ -1,5 +1,5 @@
 -- A known word is the encoding of what it decodes to, and its operands fit.
-use Rattle.std.proofs.Common.{◌≡◌, ℕ, ◌+◌, ◌%◌, ◌^◌, ◌<◌, true, cond, eqb, sym, refl, ap, ◌∙◌, ⊎_elim, arith}
+use Rattle.std.proofs.Common.{◌≡◌, ℕ, ◌+◌, ◌%◌, ◌^◌, ◌<◌, true, if◌then◌else◌, eqb, sym, refl, ap, ◌∙◌, ⊎_elim, arith}
 use Rattle.std.proofs.lemmas.Nat.{mod_below}
 use Rattle.std.proofs.lemmas.Bool.{eqb-true, eq-eqb, ne_eqb, cases_Bool, cond_both}
 use Rattle.isa.specs.declared.instruction.Instruction.{Instruction}
@@ -11,7 +11,7 @@ use Rattle.isa.specs.Fields.{bits, opcode, rd, f3, rs1, rs2, f7, csr, imm_i}
 use Rattle.isa_laws.specs.Encoding.{Form, twelve, five, none, Code, code_of, with_immediate, encoded, format_r, format_i, condition_code, load_code, store_code, csr_code}
 use Rattle.isa_laws.specs.EncodingLaws.{Encodable, ImmediateFits, counted, EncodeInvertsDecode, OperandsFit}
 use Rattle.isa_laws.proofs.Formats.{whole-R, whole-I, low-I, whole-S, whole-B, whole-U, whole-J, short-I, short-S, short-B, short-J}
-use Rattle.isa_laws.proofs.Lines.{immediate_line, shift_line, line_of, met, line-met, on_line, asked}
+use Rattle.isa_laws.proofs.Lines.{nowhere, immediate_line, shift_line, line_of, met, line-met, on_line, asked}
 
 -- of another opcode than the fences', every bit counts
 all-counts : (w o : ℕ) → opcode w ≡ o → (o ≡ 0x0f → ⊥) → counted w ≡ w
@@ -19,7 +19,7 @@ all-counts w o e n =
     let h : w % 2 ^ 7 ≡ 0x0f → ⊥ = λ q. n (omega (arith, e, q)) in
     rw (ne_eqb (w % 2 ^ 7) 0x0f h)
 
-pick : (w a : ℕ) (x y : Instruction) → encoded x ≡ a → ((y ≡ Unknown → ⊥) → encoded y ≡ w) → (cond (eqb w a) x y ≡ Unknown → ⊥) → encoded (cond (eqb w a) x y) ≡ w
+pick : (w a : ℕ) (x y : Instruction) → encoded x ≡ a → ((y ≡ Unknown → ⊥) → encoded y ≡ w) → ((if eqb w a then x else y) ≡ Unknown → ⊥) → encoded (if eqb w a then x else y) ≡ w
 pick w a x y e f n =
     ⊎_elim
     (λ t. rw t (e ∙ sym (eqb-true w a t)))
@@ -28,6 +28,10 @@ pick w a x y e f n =
 
 system : (w : ℕ) → (system_of w ≡ Unknown → ⊥) → encoded (system_of w) ≡ w
 system w = pick w 0x00000073 _ _ refl (pick w 0x00100073 _ _ refl (pick w 0x30200073 _ _ refl (pick w 0x10500073 _ _ refl (λ n. absurd (n refl)))))
+
+-- no word is on the line of no opcode
+no-line : {X : Type 0} (w : ℕ) → met nowhere (opcode w) (f3 w) (f7 w) ≡ true → X
+no-line w e = let p = on_line 128 true true (opcode w) e in absurd (omega (arith, p.0))
 
 -- ---- the word from the instruction, by kind
 module _ (w : ℕ) (h : w < 2 ^ 32) where
@@ -45,13 +49,13 @@ module _ (w : ℕ) (h : w < 2 ^ 32) where
 
   immediate-back : (m : Form) (c : Code) (t : Kind) → met (immediate_line m c t) (opcode w) (f3 w) (f7 w) ≡ true → with_immediate m c.f3 c.f7 (rd w) (rs1 w) (imm_i w) ≡ counted w
   immediate-back twelve c t e = let p = on_line 0x13 _ true (opcode w) e in as-I 0x13 c.f3 (imm_i w) (low-I w h) p.0 (asked c.f3 (f3 w) p.1) (λ z. omega arith)
-  immediate-back five c t e = let p = on_line 128 true true (opcode w) e in absurd (omega (arith, p.0))
-  immediate-back none c t e = let p = on_line 128 true true (opcode w) e in absurd (omega (arith, p.0))
+  immediate-back five c t e = no-line w e
+  immediate-back none c t e = no-line w e
 
   shift_back : (m : Form) (c : Code) (t : Kind) → met (shift_line m c t) (opcode w) (f3 w) (f7 w) ≡ true → with_immediate m c.f3 c.f7 (rd w) (rs1 w) (rs2 w) ≡ counted w
-  shift_back twelve c t e = let p = on_line 128 true true (opcode w) e in absurd (omega (arith, p.0))
+  shift_back twelve c t e = no-line w e
   shift_back five c t e = let p = on_line 0x13 _ _ (opcode w) e in as-R 0x13 c.f3 c.f7 p.0 (asked c.f3 (f3 w) p.1) (asked c.f7 (f7 w) p.2) (λ z. omega arith)
-  shift_back none c t e = let p = on_line 128 true true (opcode w) e in absurd (omega (arith, p.0))
+  shift_back none c t e = no-line w e
 
   back : (c : Kind) → On c → (formed c w (imm_of c w) ≡ Unknown → ⊥) → encoded (formed c w (imm_of c w)) ≡ counted w
   back k.Lui e n = let p = on_line 0x37 true true (opcode w) e in cc (p.0, whole-U w h, all-counts w 0x37 p.0 (λ z. omega arith))
@@ -88,13 +92,13 @@ module _ (w : ℕ) where
 
   value-fits : (m : Form) (c : Code) (t : Kind) → met (immediate_line m c t) (opcode w) (f3 w) (f7 w) ≡ true → ImmediateFits m (imm_i w)
   value-fits twelve c t e = short-I w
-  value-fits five c t e = let p = on_line 128 true true (opcode w) e in absurd (omega (arith, p.0))
-  value-fits none c t e = let p = on_line 128 true true (opcode w) e in absurd (omega (arith, p.0))
+  value-fits five c t e = no-line w e
+  value-fits none c t e = no-line w e
 
   amount-fits : (m : Form) (c : Code) (t : Kind) → met (shift_line m c t) (opcode w) (f3 w) (f7 w) ≡ true → ImmediateFits m (rs2 w)
-  amount-fits twelve c t e = let p = on_line 128 true true (opcode w) e in absurd (omega (arith, p.0))
+  amount-fits twelve c t e = no-line w e
   amount-fits five c t e = register 20
-  amount-fits none c t e = let p = on_line 128 true true (opcode w) e in absurd (omega (arith, p.0))
+  amount-fits none c t e = no-line w e
 
   system-fits : (system_of w ≡ Unknown → ⊥) → Encodable (system_of w)
   system-fits =
@@ -119,8 +123,8 @@ module _ (w : ℕ) where
   fits k.System e n = system-fits n
   fits k.Unknown e n = n refl
 
-pub operands-fit : OperandsFit
-operands-fit w h n =
+pub operands_fit : OperandsFit
+operands_fit w h n =
     ⊎_elim
     (λ e. absurd (n (ap (λ c. formed c w (imm_of c w)) e)))
     (λ e. fits w (word_kind w) e n)

@@ -1,5 +1,5 @@
 -- The fields of each format, and a word as the sum of its fields.
-use Rattle.std.proofs.Common.{◌≡◌, ℕ, ◌+◌, ◌-◌, ◌*◌, ◌/◌, ◌%◌, ◌^◌, ◌<◌, true, false, cond, ltb, sym, refl, ap, ◌∙◌, inl, inr, ⊎_elim, mod-eq_of_lt, add_comm, arith}
+use Rattle.std.proofs.Common.{◌≡◌, ℕ, ◌+◌, ◌-◌, ◌*◌, ◌/◌, ◌%◌, ◌^◌, ◌<◌, true, false, if◌then◌else◌, ltb, sym, refl, ap, ◌∙◌, inl, inr, ⊎_elim, mod-eq_of_lt, add_comm, arith}
 use Rattle.std.proofs.lemmas.Nat.{mod-pow-add, mod-mul-add}
 use Rattle.std.proofs.lemmas.Bool.{cases_lt, lt-ltb, le-ltb}
 use Rattle.isa.specs.Fields.{bits, sign_extended, opcode, rd, f3, rs1, rs2, f7, csr, imm_i, imm_s, imm_b, imm_u, imm_j}
@@ -54,7 +54,7 @@ module _ (o d : ℕ) (ho : o < 128) (hd : d < 32) where
 
 module _ (m c : ℕ) (h : 2 ^ 32 ≡ c * (2 * m) + 2 * m) where
   extension : (n : ℕ) → (e : ℕ) × (sign_extended m n ≡ n + e * (2 * m))
-  extension n = elim (ltb n m) as (λ b. (e : ℕ) × (cond b n (n + (2 ^ 32 - 2 * m)) ≡ n + e * (2 * m))) [ true ↦ (0, omega arith) | false ↦ (c, omega arith) ]
+  extension n = elim (ltb n m) as (λ b. (e : ℕ) × ((if b then n else n + (2 ^ 32 - 2 * m)) ≡ n + e * (2 * m))) [ true ↦ (0, omega arith) | false ↦ (c, omega arith) ]
 
   -- a short number is the extension of its low bits
   pub short-extends : (v : ℕ) → Short m v → sign_extended m (v % (2 * m)) ≡ v

@@ -7,7 +7,7 @@ use Rattle.isa.specs.Listing.{any, is, meets, Line, at, listing, listed, kind_of
 use Rattle.isa_laws.specs.Encoding.{Form, twelve, five, none, Code, code_of, condition_code, load_code, store_code, csr_code}
 
 -- a line that no word is on: an opcode has seven bits
-abbrev nowhere : Line
+abbrev pub nowhere : Line
 nowhere = at 128 any any Unknown
 
 abbrev pub immediate_line : Form → Code → Kind → Line

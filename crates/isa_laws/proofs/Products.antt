@@ -1,9 +1,8 @@
 -- The halves of a product make up the product.
-use Rattle.std.proofs.Common.{◌≡◌, ℕ, suc, ◌+◌, ◌-◌, ◌*◌, ◌/◌, ◌%◌, ◌^◌, ℤ, pos, negsuc, ◌+ℤ◌, ◌*ℤ◌, ap, div-add-mod', arith, w32, w64, SFits}
+use Rattle.std.proofs.Common.{◌≡◌, ℕ, suc, ◌+◌, ◌-◌, ◌*◌, ◌/◌, ◌%◌, ◌^◌, ◌<◌, ℤ, pos, negsuc, ◌+ℤ◌, ◌*ℤ◌, ap, div-add-mod', arith, w32, w64, SFits}
 use borrow.Author.Differences.{up, down, same_in, sum_is_lem, product_is}
-use Rattle.std.proofs.lemmas.Nat.{mul-lt, mul-le}
-use Rattle.std.proofs.lemmas.Int.{to_z_pos}
-use Rattle.isa.proofs.Wide.{mag-neg, signed_by}
+use Rattle.std.proofs.lemmas.Int.{to_z_pos, fits_signed_mul}
+use lib.Signed.{nat_abs-le}
 use Rattle.isa.specs.Alu.{signed, upper}
 use Rattle.isa_laws.specs.ArithmeticLaws.{Multiplication}
 use Rattle.isa_laws.proofs.Readings.{high, fits, wrap}
@@ -18,10 +17,11 @@ halves (negsuc n) p k j f e =
     (same_in _ _ (omega (arith, sum_is_lem (negsuc (2 ^ 32 - suc u) *ℤ pos (2 ^ 32)) (pos (p % 2 ^ 32)), product_is (negsuc (2 ^ 32 - suc u)) (pos (2 ^ 32)), f.sfits)))
 
 pub product-fits : (x y : ℤ) → SFits w32 x → SFits w32 y → SFits w64 (x *ℤ y)
-product-fits (pos a) (pos b) f g = record { sfits = omega (arith, mul-lt a b (2 ^ 31) (2 ^ 31) f.sfits g.sfits) }
-product-fits (pos a) (negsuc b) f g = record { sfits = omega (arith, mag-neg (a * suc b), mul-le a (suc b) (2 ^ 31) (2 ^ 31) (omega (arith, f.sfits)) g.sfits) }
-product-fits (negsuc a) (pos b) f g = record { sfits = omega (arith, mag-neg (suc a * b), mul-le (suc a) b (2 ^ 31) (2 ^ 31) f.sfits (omega (arith, g.sfits))) }
-product-fits (negsuc a) (negsuc b) f g = record { sfits = omega (arith, mul-le (suc a) (suc b) (2 ^ 31) (2 ^ 31) f.sfits g.sfits) }
+product-fits x y f g = fits_signed_mul w64 x y (2 ^ 31) (2 ^ 31) (nat_abs-le x f.sfits) (nat_abs-le y g.sfits) (omega arith)
+
+-- a signed word times an unsigned one
+pub signed_by : (x : ℤ) (b : ℕ) → SFits w32 x → b < 2 ^ 32 → SFits w64 (x *ℤ pos b)
+signed_by x b f h = fits_signed_mul w64 x (pos b) (2 ^ 31) (2 ^ 32 - 1) (nat_abs-le x f.sfits) (omega arith) (omega arith)
 
 pub multiplication : Multiplication
 multiplication a b ha hb =

@@ -1,30 +1,13 @@
 -- Quotients and remainders.
-use Rattle.std.proofs.Common.{◌≡◌, ℕ, zero, suc, ◌-◌, ◌*◌, ◌/◌, ◌%◌, ◌^◌, ◌<◌, ℤ, pos, negsuc, ◌+ℤ◌, ◌*ℤ◌, neg_ℤ, nat_abs, ◌≤ℤ◌, refl, ap, ⊎_elim, mod-lt, div-add-mod', div-le_self, div-one, arith, w32, SFits, of_z}
+use Rattle.std.proofs.Common.{◌≡◌, ℕ, zero, suc, ◌-◌, ◌/◌, ◌^◌, ◌<◌, ℤ, pos, negsuc, neg_ℤ, nat_abs, ◌≤ℤ◌, refl, ap, ⊎_elim, mod-lt, div-add-mod', div-le_self, div-one, arith, w32, SFits, of_z}
 use native.Mathlib.Nat.{zero-mod, div-lt_self}
 use lib.Signed.{quot_z, rem_z, mag_rem}
-use borrow.Author.Differences.{same_in, sum_is_lem, neg_is, mag_is, at_most_in}
-use Rattle.std.proofs.lemmas.Int.{ints, to_z-of_z, to_z_pos, of_z-to_z}
+use borrow.Author.Differences.{neg_is, mag_is, at_most_in}
+use Rattle.std.proofs.lemmas.Int.{ints, to_z-of_z, to_z_pos, of_z-to_z, quot-rem, rem_below}
 use Rattle.std.proofs.lemmas.Bool.{cases_lt, ne_eqb}
-use Rattle.isa.proofs.Wide.{mag-neg}
 use Rattle.isa.specs.Alu.{signed}
 use Rattle.isa_laws.specs.ArithmeticLaws.{Division, DivisionSpecial}
-use Rattle.isa_laws.proofs.Readings.{high, fits, neg-pos, neg-neg}
-
-whole_of : (x y : ℤ) → quot_z x y *ℤ y +ℤ rem_z x y ≡ x
-whole_of (pos a) (pos b) = ap pos (div-add-mod' a b)
-whole_of (pos a) (negsuc b) = rw (neg-neg (a / suc b) b) (ap pos (div-add-mod' a (suc b)))
-whole_of (negsuc a) (pos b) =
-    rw (neg-pos (suc a / b) b) (same_in _ _ (omega (arith, sum_is_lem (neg_ℤ (pos (suc a / b * b))) (neg_ℤ (pos (suc a % b))), neg_is (pos (suc a / b * b)), neg_is (pos (suc a % b)), div-add-mod' (suc a) b)))
-whole_of (negsuc a) (negsuc b) =
-    same_in _ _ (omega (arith, sum_is_lem (neg_ℤ (pos (suc a / suc b * suc b))) (neg_ℤ (pos (suc a % suc b))), neg_is (pos (suc a / suc b * suc b)), neg_is (pos (suc a % suc b)), div-add-mod' (suc a) (suc b)))
-
-abs_neg : (n : ℕ) → nat_abs (neg_ℤ (pos n)) ≡ n
-abs_neg zero = refl
-abs_neg (suc n) = refl
-
-small_of : (x y : ℤ) → 0 < nat_abs y → nat_abs (rem_z x y) < nat_abs y
-small_of (pos a) y h = mod-lt a h
-small_of (negsuc a) y h = rw (abs_neg (suc a % nat_abs y)) (mod-lt (suc a) h)
+use Rattle.isa_laws.proofs.Readings.{high, fits, mag-neg}
 
 not-negative-of : (x y : ℤ) → pos 0 ≤ℤ x → pos 0 ≤ℤ rem_z x y
 not-negative-of (pos a) y h = omega (arith, ints)
@@ -64,12 +47,12 @@ division = (
       let q = to_z-of_z w32 (quot_z x y) (quotient_fits x y (fits a ha) (λ p r. over (least a ha p) (minus_one b hb r))) in
       let r = to_z-of_z w32 (rem_z x y) record { sfits = omega (arith, mag_rem x y, (fits a ha).sfits) } in
       record {
-        whole = rw (z, q, r) (whole_of x y);
-        small = rw (z, r) (small_of x y (not-zero b hb h));
+        whole = rw (z, q, r) (quot-rem x y);
+        small = rw (z, r) (rem_below x y (not-zero b hb h));
         not_negative = λ s. rw (z, r) (not-negative-of x y s);
         not_positive = λ s. rw (z, r) (not-positive-of x y s);
       },
 )
 
-pub division-special : DivisionSpecial
-division-special = (λ a. record { quotient = refl; quotient_unsigned = refl; remainder = refl; remainder_unsigned = refl }, refl, refl)
+pub division_special : DivisionSpecial
+division_special = (λ a. record { quotient = refl; quotient_unsigned = refl; remainder = refl; remainder_unsigned = refl }, refl, refl)

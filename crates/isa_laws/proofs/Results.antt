@@ -1,15 +1,14 @@
 -- Every operation gives a word.
-use Rattle.std.proofs.Common.{ℕ, suc, ◌+◌, ◌-◌, ◌*◌, ◌/◌, ◌%◌, ◌^◌, ◌≤◌, Bool, cond, eqb, ℤ, pos, negsuc, div-le_self, arith, w32, w64, SFits}
+use Rattle.std.proofs.Common.{suc, ◌+◌, ◌-◌, ◌*◌, ◌/◌, ◌%◌, ◌^◌, ◌≤◌, ℤ, pos, negsuc, div-le_self, arith, w32, w64, SFits}
 use native.Mathlib.Nat.{mod-le}
 use lib.Signed.{mag, quot_z, rem_z, shr_z, mag_rem, mag_shr}
 use Rattle.std.proofs.lemmas.Nat.{mul-le, and_le_l, or_lt, xor_lt, mod_below, shr_le}
-use Rattle.std.proofs.lemmas.Bool.{cond_both}
-use Rattle.isa.proofs.Wide.{mag-neg, signed_by}
+use Rattle.std.proofs.lemmas.Bool.Decides.{nat_tests}
 use Rattle.isa.specs.declared.alu.AluOp.TheVariants.{Add, Sub, Sll, Slt, Sltu, Xor, Srl, Sra, Or, And, Mul, Mulh, Mulhsu, Mulhu, Div, Divu, Rem, Remu}
-use Rattle.isa.specs.Alu.{signed, word_of, upper, flag}
+use Rattle.isa.specs.Alu.{signed, word_of, upper}
 use Rattle.isa_laws.specs.ArithmeticLaws.{Word, ResultsAreWords}
-use Rattle.isa_laws.proofs.Readings.{fits}
-use Rattle.isa_laws.proofs.Products.{product-fits}
+use Rattle.isa_laws.proofs.Readings.{fits, mag-neg}
+use Rattle.isa_laws.proofs.Products.{product-fits, signed_by}
 
 word_below : (z : ℤ) → mag z ≤ 2 ^ 31 → Word (word_of z)
 word_below (pos n) h = omega arith
@@ -25,28 +24,22 @@ quotient-below (pos a) (negsuc b) f = omega (arith, f.sfits, div-le_self a (suc 
 quotient-below (negsuc a) (pos b) f = omega (arith, f.sfits, div-le_self (suc a) b, mag-neg (suc a / b))
 quotient-below (negsuc a) (negsuc b) f = omega (arith, f.sfits, div-le_self (suc a) (suc b))
 
-flag-below : (b : Bool) → Word (flag b)
-flag-below b = cond_both b 1 0 Word (λ e. omega arith) (λ e. omega arith)
-
-unless-zero : (b x y : ℕ) → Word x → Word y → Word (cond (eqb b 0) x y)
-unless-zero b x y p q = cond_both (eqb b 0) x y Word (λ e. p) (λ e. q)
-
-pub results-are-words : ResultsAreWords
-results-are-words Add a b ha hb = mod_below (a + b) (2 ^ 32) (omega arith)
-results-are-words Sub a b ha hb = mod_below (a + (2 ^ 32 - b)) (2 ^ 32) (omega arith)
-results-are-words Sll a b ha hb = mod_below (a * 2 ^ (b % 32)) (2 ^ 32) (omega arith)
-results-are-words Slt a b ha hb = flag-below _
-results-are-words Sltu a b ha hb = flag-below _
-results-are-words Xor a b ha hb = xor_lt 32 a b ha hb
-results-are-words Srl a b ha hb = omega (arith, shr_le a (b % 32))
-results-are-words Sra a b ha hb = word_below (shr_z (signed a) (2 ^ (b % 32))) (omega (arith, mag_shr (signed a) (2 ^ (b % 32)), (fits a ha).sfits))
-results-are-words Or a b ha hb = or_lt 32 a b ha hb
-results-are-words And a b ha hb = omega (arith, and_le_l a b)
-results-are-words Mul a b ha hb = mod_below (a * b) (2 ^ 32) (omega arith)
-results-are-words Mulh a b ha hb = upper-below _ (product-fits (signed a) (signed b) (fits a ha) (fits b hb))
-results-are-words Mulhsu a b ha hb = upper-below _ (signed_by (signed a) b (fits a ha) hb)
-results-are-words Mulhu a b ha hb = omega (arith, mul-le a b (2 ^ 32 - 1) (2 ^ 32 - 1) (omega arith) (omega arith))
-results-are-words Div a b ha hb = unless-zero b (2 ^ 32 - 1) _ (omega arith) (word_below (quot_z (signed a) (signed b)) (quotient-below (signed a) (signed b) (fits a ha)))
-results-are-words Divu a b ha hb = unless-zero b (2 ^ 32 - 1) (a / b) (omega arith) (omega (arith, div-le_self a b))
-results-are-words Rem a b ha hb = unless-zero b _ _ ha (word_below (rem_z (signed a) (signed b)) (omega (arith, mag_rem (signed a) (signed b), (fits a ha).sfits)))
-results-are-words Remu a b ha hb = unless-zero b a (a % b) ha (omega (arith, mod-le a b))
+pub results_are_words : ResultsAreWords
+results_are_words Add a b ha hb = mod_below (a + b) (2 ^ 32) (omega arith)
+results_are_words Sub a b ha hb = mod_below (a + (2 ^ 32 - b)) (2 ^ 32) (omega arith)
+results_are_words Sll a b ha hb = mod_below (a * 2 ^ (b % 32)) (2 ^ 32) (omega arith)
+results_are_words Slt a b ha hb = grind (arith, nat_tests)
+results_are_words Sltu a b ha hb = grind (arith, nat_tests)
+results_are_words Xor a b ha hb = xor_lt 32 a b ha hb
+results_are_words Srl a b ha hb = omega (arith, shr_le a (b % 32))
+results_are_words Sra a b ha hb = word_below (shr_z (signed a) (2 ^ (b % 32))) (omega (arith, mag_shr (signed a) (2 ^ (b % 32)), (fits a ha).sfits))
+results_are_words Or a b ha hb = or_lt 32 a b ha hb
+results_are_words And a b ha hb = omega (arith, and_le_l a b)
+results_are_words Mul a b ha hb = mod_below (a * b) (2 ^ 32) (omega arith)
+results_are_words Mulh a b ha hb = upper-below _ (product-fits (signed a) (signed b) (fits a ha) (fits b hb))
+results_are_words Mulhsu a b ha hb = upper-below _ (signed_by (signed a) b (fits a ha) hb)
+results_are_words Mulhu a b ha hb = omega (arith, mul-le a b (2 ^ 32 - 1) (2 ^ 32 - 1) (omega arith) (omega arith))
+results_are_words Div a b ha hb = let q = word_below (quot_z (signed a) (signed b)) (quotient-below (signed a) (signed b) (fits a ha)) in grind (arith, nat_tests)
+results_are_words Divu a b ha hb = let q = div-le_self a b in grind (arith, nat_tests)
+results_are_words Rem a b ha hb = let q = word_below (rem_z (signed a) (signed b)) (omega (arith, mag_rem (signed a) (signed b), (fits a ha).sfits)) in grind (arith, nat_tests)
+results_are_words Remu a b ha hb = let q = mod-le a b in grind (arith, nat_tests)

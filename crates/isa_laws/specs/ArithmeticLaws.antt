@@ -1,5 +1,5 @@
 -- Laws of the operations and of the branch conditions, on words a and b.
-use Rattle.std.specs.Prelude.{◌≡◌, ℕ, ◌+◌, ◌-◌, ◌*◌, ◌/◌, ◌%◌, ◌^◌, ◌<◌, ◌≤◌, Bool, not, ◌&&◌, ◌||◌, ℤ, pos, ◌+ℤ◌, ◌*ℤ◌, ◌≤ℤ◌, ◌<ℤ◌, Decides, ◌==◌, ◌≢◌, unsigned_abs}
+use Rattle.std.specs.Prelude.{◌≡◌, ℕ, ◌+◌, ◌-◌, ◌*◌, ◌/◌, ◌%◌, ◌^◌, ◌<◌, ◌≤◌, Bool, not, ◌&&◌, ◌||◌, ℤ, pos, ◌+ℤ◌, ◌*ℤ◌, ◌≤ℤ◌, ◌<ℤ◌, IsTrue, ◌↔◌, ◌==◌, ◌≢◌, unsigned_abs}
 use Rattle.std.specs.Bool.{beq}
 use Rattle.isa.specs.declared.alu.AluOp.{AluOp}
 use Rattle.isa.specs.declared.alu.AluOp.TheVariants.{Add, Sub, Sll, Slt, Sltu, Xor, Srl, Sra, Or, And, Mul, Mulh, Mulhsu, Mulhu, Div, Divu, Rem, Remu}
@@ -82,12 +82,12 @@ Comparison = (a b : ℕ) → Compares a b
 
 -- each condition holds just where its relation does
 pub record Branches (a b : ℕ) : Type 0 where
-  pub equal : Decides (holds Eq a b) (a ≡ b)
-  pub not_equal : Decides (holds Ne a b) (a ≢ b)
-  pub less : Decides (holds Lt a b) (signed a <ℤ signed b)
-  pub not_less : Decides (holds Ge a b) (signed b ≤ℤ signed a)
-  pub less_unsigned : Decides (holds Ltu a b) (a < b)
-  pub not_less_unsigned : Decides (holds Geu a b) (b ≤ a)
+  pub equal : IsTrue (holds Eq a b) ↔ (a ≡ b)
+  pub not_equal : IsTrue (holds Ne a b) ↔ (a ≢ b)
+  pub less : IsTrue (holds Lt a b) ↔ (signed a <ℤ signed b)
+  pub not_less : IsTrue (holds Ge a b) ↔ (signed b ≤ℤ signed a)
+  pub less_unsigned : IsTrue (holds Ltu a b) ↔ (a < b)
+  pub not_less_unsigned : IsTrue (holds Geu a b) ↔ (b ≤ a)
 
 -- the law of the branch conditions
 abbrev pub Branching : Type 0

@@ -1,5 +1,5 @@
 -- Encoding and decoding undo one another.
-use Rattle.std.specs.Prelude.{◌≡◌, ℕ, ◌+◌, ◌-◌, ◌*◌, ◌/◌, ◌%◌, ◌^◌, ◌<◌, ◌≤◌, cond, ◌⊎◌, ◌==◌, ◌≢◌}
+use Rattle.std.specs.Prelude.{◌≡◌, ℕ, ◌+◌, ◌-◌, ◌*◌, ◌/◌, ◌%◌, ◌^◌, ◌<◌, ◌≤◌, if◌then◌else◌, ◌⊎◌, ◌==◌, ◌≢◌}
 use Rattle.isa.specs.declared.instruction.Instruction.{Instruction}
 use Rattle.isa.specs.declared.instruction.Instruction.TheVariants.{Lui, Auipc, Jal, Jalr, Branch, Load, Store, Immediate, Op, Csr, CsrImmediate, Fence, FenceI, Ecall, Ebreak, Mret, Wfi, Unknown}
 use Rattle.isa.specs.Decode.{decoded}
@@ -50,7 +50,7 @@ Encodable Unknown = ⊥
 
 -- the bits of a word that count: of opcode 0x0f, FENCE and FENCE.I, only the opcode and f3
 abbrev pub counted : ℕ → ℕ
-counted w = cond (w % 2 ^ 7 == 0x0f) (w % 2 ^ 7 + w / 2 ^ 12 % 2 ^ 3 * 2 ^ 12) w
+counted w = if w % 2 ^ 7 == 0x0f then w % 2 ^ 7 + w / 2 ^ 12 % 2 ^ 3 * 2 ^ 12 else w
 
 -- an instruction whose operands fit is encoded as a word, and this word decodes to it
 abbrev pub DecodeInvertsEncode : Type 0

@@ -1,9 +1,7 @@
-use Rattle.std.proofs.Common.{arith}
-use Rattle.std.proofs.lemmas.List.FromFn.{get_or-map-range_with_len}
-use Rattle.isa.specs.declared.kind.Kind.TheVariants.{Lui}
-use Rattle.isa.specs.Listing.{kind_at, kind_of}
+use Rattle.isa.specs.Listing.{kind_of, sample}
+use Rattle.isa.proofs.Places.{entries}
 use Rattle.isa.proofs.decode.entry.Goals as goal
 
 pub returns : goal.returns
-unfolding kind_of
-returns c = get_or-map-range_with_len kind_at 0 1024 c.args.index c.args.index Lui c.requires (omega arith)
+unfolding kind_of sample
+returns c = entries c.args.opcode c.args.f3 c.args.class _ _ _ c.requires.opcode c.requires.f3 c.requires.class

@@ -1,0 +1,7 @@
+use Rattle.std.specs.Prelude.{ℕ, refl}
+use Rattle.blocks.specs.declared.slot.Slot.{Slot}
+use Rattle.isa.specs.Decode.{decoded}
+
+-- the slot of a word: the word and its decoding
+abbrev pub slot_of : ℕ → Slot
+slot_of w = record { word = w; form = decoded w; decodes = refl }
