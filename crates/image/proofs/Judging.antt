@@ -1,18 +1,22 @@
 -- The verdict on a file is that of the plain sentences about it.
-use Rattle.std.proofs.Common.{◌≡◌, ℕ, suc, ◌%◌, ◌<◌, ◌≤◌, Bool, true, false, cond, eqb, List, [], ◌∷◌, length, get_or, take, Decides, sym, refl, ap, ◌∙◌, ⊎_elim, arith, below_none, below_more}
+use Rattle.std.proofs.Common.{◌≡◌, ℕ, ◌%◌, ◌<◌, ◌≤◌, Bool, true, false, if◌then◌else◌, eqb, List, [], ◌∷◌, length, get_or, take, Decides, Ok, Err, Result, IsOk, sym, refl, ap, ◌∙◌, subst, ⊎_elim, arith, rules, below_none, below_more}
 use Rattle.std.proofs.lemmas.Bool.{and_parts, and_from, eqb-true, eq-eqb, cases_lt}
-use Rattle.std.proofs.lemmas.List.{get_or-take, get_or_past}
+use Rattle.std.proofs.lemmas.List.{get_or-take, get_or_past, length-take}
+use Rattle.std.proofs.lemmas.Grind.{same_number_lists}
 use Rattle.std.proofs.lemmas.Bool.Decides.{nat_tests, Decides-below_and, Decides-below_or, not_from_Decides}
 use Rattle.image.specs.declared.header.ProgramHeader.{ProgramHeader}
 use Rattle.image.specs.Below.{every, some}
 use Rattle.image.specs.Fields.{identified}
 use Rattle.image.specs.Headers.{entry_of, table_count, header_at}
+use Rattle.image.specs.Numbers.{number_of}
+use Rattle.image.specs.declared.refusal.Refusal.{Refusal}
+use Rattle.image.specs.declared.refusal.Refusal.TheVariants.{Size, Identification, FileKind, ProgramTable, SegmentBounds, EntryPoint, Index}
 use Rattle.image.specs.Verdict.{verdict, size_fits, kind_fits, table_fits, segments_fit, entry_fits, segment_fits, covers}
 use Rattle.image.specs.WellFormed.{SegmentFits, LoadedAt, RightSize, RightIdentification, RightKind, RightTable, RightEntry, Judged}
 
 -- each test with what it tells
-decides-fits : (n : ℕ) (h : ProgramHeader) → Decides (segment_fits n h) (SegmentFits n h)
-decides-fits n h = (
+pub decides_fits : (n : ℕ) (h : ProgramHeader) → Decides (segment_fits n h) (SegmentFits n h)
+decides_fits n h = (
   λ e. record { inside = λ k. grind (arith, nat_tests); holds = λ k. grind (arith, nat_tests); ends = λ k. grind (arith, nat_tests) },
   λ f. let i = f.inside in let o = f.holds in let b = f.ends in grind (arith, nat_tests),
 )
@@ -25,20 +29,11 @@ decides-loaded a h = (
 
 all_fit : (s : List ℕ) (n : ℕ) → Decides (every (λ k. segment_fits (length s) (header_at s k)) n) ((k : ℕ) → k < n → SegmentFits (length s) (header_at s k))
 unfolding every
-all_fit s n = Decides-below_and (λ k. segment_fits (length s) (header_at s k)) _ (every (λ k. segment_fits (length s) (header_at s k))) (λ k. decides-fits (length s) (header_at s k)) refl (λ n. refl) n
+all_fit s n = Decides-below_and (λ k. segment_fits (length s) (header_at s k)) _ (every (λ k. segment_fits (length s) (header_at s k))) (λ k. decides_fits (length s) (header_at s k)) refl (λ n. refl) n
 
 some-load : (s : List ℕ) (a n : ℕ) → Decides (some (λ k. covers a (header_at s k)) n) ((k : ℕ) × (k < n) × LoadedAt (header_at s k) a)
 unfolding some
 some-load s a n = Decides-below_or (λ k. covers a (header_at s k)) (λ k. LoadedAt (header_at s k) a) (some (λ k. covers a (header_at s k))) (λ k. decides-loaded a (header_at s k)) refl (λ n. refl) n
-
--- a list's front, by its elements
-front-is : (t s : List ℕ) → length t ≤ length s → ((i : ℕ) → i < length t → get_or s i 0 ≡ get_or t i 0) → take (length t) s ≡ t
-front-is [] s h e = refl
-front-is (x ∷ t) [] h e = absurd (omega arith)
-front-is (x ∷ t) (y ∷ s) h e =
-    let a : y ≡ x = e 0 (omega arith) in
-    let b = front-is t s (omega arith) (λ i l. e (suc i) (omega arith)) in
-    cc
 
 abbrev magic : List ℕ
 magic = 0x7f ∷ 0x45 ∷ 0x4c ∷ 0x46 ∷ 1 ∷ 1 ∷ 1 ∷ []
@@ -68,8 +63,10 @@ decides-size s = (
 
 decides-identification : (s : List ℕ) → Decides (identified s) (RightIdentification s)
 decides-identification s = (
-  λ e. let last = magic-at s e 6 (omega arith) in
-      front-is magic s (⊎_elim (λ lt. lt) (λ ge. absurd (omega (arith, last, get_or_past s 6 0 ge))) (cases_lt 6 (length s))) (magic-at s e),
+  λ e. let at = magic-at s e in let last = at 6 (omega arith) in
+      let long : 7 ≤ length s = ⊎_elim (λ lt. lt) (λ ge. absurd (omega (arith, last, get_or_past s 6 0 ge))) (cases_lt 6 (length s)) in
+      let front : length (take 7 s) ≡ 7 = simp length-take (omega arith) in
+      same_number_lists (take 7 s) magic front (λ i l. get_or-take 7 s i 0 (omega arith) ∙ at i (omega arith)),
   begins s,
 )
 
@@ -93,7 +90,7 @@ decides-entry s = (
 
 -- the number of the first test that fails
 abbrev first : Bool → Bool → Bool → Bool → Bool → Bool → ℕ
-first a b c d e f = cond a (cond b (cond c (cond d (cond e (cond f 0 6) 5) 4) 3) 2) 1
+first a b c d e f = if a then (if b then (if c then (if d then (if e then (if f then 0 else 6) else 5) else 4) else 3) else 2) else 1
 
 module _ (a b c d e f : Bool) where
   none : first a b c d e f ≡ 0 → (a ≡ true) × (b ≡ true) × (c ≡ true) × (d ≡ true) × (e ≡ true) × (f ≡ true)
@@ -102,20 +99,20 @@ module _ (a b c d e f : Bool) where
   at_1 : first a b c d e f ≡ 1 → a ≡ false
   at_1 h = grind (arith, nat_tests)
 
-  at-2 : first a b c d e f ≡ 2 → (a ≡ true) × (b ≡ false)
-  at-2 h = (grind (arith, nat_tests), grind (arith, nat_tests))
+  at_2 : first a b c d e f ≡ 2 → (a ≡ true) × (b ≡ false)
+  at_2 h = (grind (arith, nat_tests), grind (arith, nat_tests))
 
-  at-3 : first a b c d e f ≡ 3 → (a ≡ true) × (b ≡ true) × (c ≡ false)
-  at-3 h = (grind (arith, nat_tests), grind (arith, nat_tests), grind (arith, nat_tests))
+  at_3 : first a b c d e f ≡ 3 → (a ≡ true) × (b ≡ true) × (c ≡ false)
+  at_3 h = (grind (arith, nat_tests), grind (arith, nat_tests), grind (arith, nat_tests))
 
-  at-4 : first a b c d e f ≡ 4 → (a ≡ true) × (b ≡ true) × (c ≡ true) × (d ≡ false)
-  at-4 h = (grind (arith, nat_tests), grind (arith, nat_tests), grind (arith, nat_tests), grind (arith, nat_tests))
+  at_4 : first a b c d e f ≡ 4 → (a ≡ true) × (b ≡ true) × (c ≡ true) × (d ≡ false)
+  at_4 h = (grind (arith, nat_tests), grind (arith, nat_tests), grind (arith, nat_tests), grind (arith, nat_tests))
 
   at_5 : first a b c d e f ≡ 5 → (a ≡ true) × (b ≡ true) × (c ≡ true) × (d ≡ true) × (e ≡ false)
   at_5 h = (grind (arith, nat_tests), grind (arith, nat_tests), grind (arith, nat_tests), grind (arith, nat_tests), grind (arith, nat_tests))
 
-  at-6 : first a b c d e f ≡ 6 → (a ≡ true) × (b ≡ true) × (c ≡ true) × (d ≡ true) × (e ≡ true) × (f ≡ false)
-  at-6 h = (grind (arith, nat_tests), grind (arith, nat_tests), grind (arith, nat_tests), grind (arith, nat_tests), grind (arith, nat_tests), grind (arith, nat_tests))
+  at_6 : first a b c d e f ≡ 6 → (a ≡ true) × (b ≡ true) × (c ≡ true) × (d ≡ true) × (e ≡ true) × (f ≡ false)
+  at_6 h = (grind (arith, nat_tests), grind (arith, nat_tests), grind (arith, nat_tests), grind (arith, nat_tests), grind (arith, nat_tests), grind (arith, nat_tests))
 
   below : first a b c d e f < 7
   below = grind (arith, nat_tests)
@@ -130,15 +127,24 @@ judged s =
           record { size = da.0 p.0; identification = db.0 p.1; kind = dc.0 p.2; table = dd.0 p.3; segments = de.0 p.4; entry = df.0 p.5 };
       takes = λ w. rw (da.1 w.size, db.1 w.identification, dc.1 w.kind, dd.1 w.table, de.1 w.segments, df.1 w.entry);
       refused_1 = λ h. not_from_Decides a da (at_1 a b c d e f h);
-      refused_2 = λ h. let p = at-2 a b c d e f h in (da.0 p.0, not_from_Decides b db p.1);
-      refused_3 = λ h. let p = at-3 a b c d e f h in (da.0 p.0, db.0 p.1, not_from_Decides c dc p.2);
-      refused_4 = λ h. let p = at-4 a b c d e f h in (da.0 p.0, db.0 p.1, dc.0 p.2, not_from_Decides d dd p.3);
+      refused_2 = λ h. let p = at_2 a b c d e f h in (da.0 p.0, not_from_Decides b db p.1);
+      refused_3 = λ h. let p = at_3 a b c d e f h in (da.0 p.0, db.0 p.1, not_from_Decides c dc p.2);
+      refused_4 = λ h. let p = at_4 a b c d e f h in (da.0 p.0, db.0 p.1, dc.0 p.2, not_from_Decides d dd p.3);
       refused_5 = λ h. let p = at_5 a b c d e f h in (da.0 p.0, db.0 p.1, dc.0 p.2, dd.0 p.3, not_from_Decides e de p.4);
-      refused_6 = λ h. let p = at-6 a b c d e f h in (da.0 p.0, db.0 p.1, dc.0 p.2, dd.0 p.3, de.0 p.4, not_from_Decides f df p.5);
+      refused_6 = λ h. let p = at_6 a b c d e f h in (da.0 p.0, db.0 p.1, dc.0 p.2, dd.0 p.3, de.0 p.4, not_from_Decides f df p.5);
       no_other = below a b c d e f;
     }
 
--- the verdict by what each test gave
-pub told : (s : List ℕ) (a b c d e f : Bool) → size_fits s ≡ a → identified s ≡ b → kind_fits s ≡ c → table_fits s ≡ d → segments_fit s ≡ e → entry_fits s ≡ f → first a b c d e f ≡ verdict s
-unfolding verdict
-told s a b c d e f p q r t u v = rw (p, q, r, t, u, v)
+pub judged_as : (s : List ℕ) (n : ℕ) → n ≡ verdict s → Judged s n
+judged_as s n e = subst (Judged s) (sym e) (judged s)
+
+-- an answer with the number 0 refuses nothing
+pub taken_at_0 : {X : Type 0} (r : Result X Refusal) → number_of r ≡ 0 → IsOk r
+taken_at_0 (Ok x) e = search rules
+taken_at_0 (Err Size) e = cc
+taken_at_0 (Err Identification) e = cc
+taken_at_0 (Err FileKind) e = cc
+taken_at_0 (Err ProgramTable) e = cc
+taken_at_0 (Err SegmentBounds) e = cc
+taken_at_0 (Err EntryPoint) e = cc
+taken_at_0 (Err Index) e = cc

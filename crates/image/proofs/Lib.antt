@@ -1,3 +1,3 @@
 pub mod Tests
-pub mod Taken
+pub mod Rows
 pub mod Judging

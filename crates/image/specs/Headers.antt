@@ -1,7 +1,7 @@
 -- The ELF32 file header and its program headers.
 use Rattle.std.specs.Prelude.{ℕ, ◌+◌, ◌*◌, List, take, drop}
 use Rattle.image.specs.declared.header.ProgramHeader.{ProgramHeader}
-use Rattle.image.specs.Fields.{half_at, word_at}
+use Rattle.image.specs.Fields.{half_at, word_at, rows_at}
 
 -- e_entry, e_phoff and e_phnum
 abbrev pub entry_of : List ℕ → ℕ
@@ -27,6 +27,10 @@ header_from s p =
 -- program header i
 abbrev pub header_at : List ℕ → ℕ → ProgramHeader
 header_at s i = header_from s (table_place s + 32 * i)
+
+-- the rows of the program header table
+abbrev pub header_rows : List ℕ → List (List ℕ)
+header_rows s = rows_at 32 s (table_place s) (table_count s)
 
 -- the bytes of the file that a program header names
 abbrev pub part : List ℕ → ProgramHeader → List ℕ

@@ -1,17 +1,14 @@
 -- Tables whose records have a start and a size, and which record an address belongs to.
-use Rattle.std.specs.Prelude.{◌≡◌, ℕ, ◌+◌, ◌<◌, ◌≤◌, Bool, cond, ◌&&◌, Some, None, Option, nat_le, nat_lt}
+use Rattle.std.specs.Prelude.{◌≡◌, ℕ, ◌+◌, ◌<◌, ◌≤◌, Bool, if◌then◌else◌, ◌&&◌, Some, None, Option, nat_le, nat_lt}
 use Rattle.image.specs.declared.records.Record.{Record}
 
 pub record Records : Type 0 where
   pub count : ℕ
   pub at : ℕ → Record
 
--- the record that covers nothing
-abbrev pub no_record : Record
-no_record = record { start = 0; size = 0 }
-
-abbrev pub record_at : Records → ℕ → Record
-record_at t i = cond (nat_lt i t.count) (t.at i) no_record
+-- record i; past the table there is none
+abbrev pub record_at : Records → ℕ → Option Record
+record_at t i = if nat_lt i t.count then Some (t.at i) else None
 
 abbrev pub holds : Record → ℕ → Bool
 holds x a = nat_le x.start a && nat_lt a (x.start + x.size)

@@ -1,5 +1,5 @@
 -- What is told of a segment: its bytes, as a part of the file, with the part's place.
-use Rattle.std.specs.Prelude.{ℕ, ◌+◌, ◌^◌, ◌≤◌, cond, List, length, Ok, Err, Result, ◌==◌, nat_lt}
+use Rattle.std.specs.Prelude.{ℕ, ◌+◌, ◌^◌, ◌≤◌, if◌then◌else◌, List, length, Ok, Err, Result, ◌==◌, nat_lt}
 use Rattle.image.specs.declared.header.ProgramHeader.{ProgramHeader}
 use Rattle.image.specs.declared.refusal.Refusal.{Refusal}
 use Rattle.image.specs.declared.segment.Segment.{Segment}
@@ -25,13 +25,12 @@ segment_told (Err e) = refused (refusal_number e)
 
 abbrev pub segment_by : List ℕ → ProgramHeader → SegmentTold
 segment_by s h =
-    cond (h.kind == 1)
-    (load (part s h) h.offset h.vaddr h.memsz)
-    (cond (h.kind == 4) (note (part s h) h.offset) other)
+    if h.kind == 1 then load (part s h) h.offset h.vaddr h.memsz
+    else if h.kind == 4 then note (part s h) h.offset else other
 
 -- segment i of a file; past the table it is refused with 19
 abbrev pub segment_at : List ℕ → ℕ → SegmentTold
-segment_at s i = cond (nat_lt i (table_count s)) (segment_by s (header_at s i)) (refused 19)
+segment_at s i = if nat_lt i (table_count s) then segment_by s (header_at s i) else refused 19
 
 -- a load's memory holds its bytes and ends by 2^32
 abbrev pub Bounded : Segment → Type 0

@@ -1,5 +1,5 @@
 -- The segments of an image as records.
-use Rattle.std.specs.Prelude.{ℕ, cond, List, ◌==◌}
+use Rattle.std.specs.Prelude.{ℕ, if◌then◌else◌, List, ◌==◌}
 use Rattle.image.specs.Headers.{header_at, table_count}
 use Rattle.image.specs.Records.{Records}
 
@@ -8,5 +8,5 @@ abbrev pub segment_records : List ℕ → Records
 segment_records s =
     record {
       count = table_count s;
-      at = λ i. record { start = (header_at s i).vaddr; size = cond ((header_at s i).kind == 1) (header_at s i).memsz 0 };
+      at = λ i. record { start = (header_at s i).vaddr; size = if (header_at s i).kind == 1 then (header_at s i).memsz else 0 };
     }

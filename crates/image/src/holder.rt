@@ -4,7 +4,6 @@ ghost use Rattle.image.specs.Verdict.{verdict};
 ghost use Rattle.image.specs.WellFormed.{Judged};
 ghost use Rattle.std.specs.Prelude.{◌≡◌, is_ok, if◌then◌else◌};
 
-use crate::check::refuse;
 use crate::image::Image;
 use crate::refusal::Refusal;
 
@@ -29,7 +28,7 @@ impl<'a> ImageHolder<'a> {
         ensures { result.image.bytes.now ≡ built_in }
     {
         ImageHolder {
-            image: Image::new(BUILT_IN),
+            image: Image::check(BUILT_IN).unwrap(),
         }
     }
 
@@ -46,8 +45,7 @@ impl<'a> ImageHolder<'a> {
         ensures judged { Judged bytes.now (number_of result) }
         ensures after { self.new.image.bytes.now ≡ (if is_ok result then bytes.now else self.old.image.bytes.now) }
     {
-        refuse(bytes)?;
-        self.image = Image::new(bytes);
+        self.image = Image::check(bytes)?;
         Ok(())
     }
 }

@@ -3,6 +3,7 @@
 
 mod check;
 mod fields;
+mod file;
 mod header;
 mod holder;
 mod image;

@@ -1,7 +1,7 @@
 ghost use Rattle.std.specs.Prelude.{◌≡◌, ◌+◌, ◌<◌};
 ghost use Rattle.image.specs.Records.{Records, record_at, holds, Finds, FindsIn};
 
-// A range of addresses.
+// A range of addresses. No `Range<u32>`: its end could not be 2^32.
 #[derive(Clone, Copy, PartialEq, Eq, Debug)]
 pub struct Record {
     pub start: u32,
@@ -9,9 +9,6 @@ pub struct Record {
 }
 
 impl Record {
-    // The record that holds no address.
-    pub const NONE: Record = Record { start: 0, size: 0 };
-
     // Whether an address lies in the record.
     pub fn holds(&self, a: u32) -> bool
         ensures { result ≡ holds self.now a }
@@ -20,14 +17,14 @@ impl Record {
     }
 }
 
-// A table whose records have a start and a size. An index past its end gives the record that holds no address.
+// A table whose records have a start and a size. An index past its end gives no record.
 pub trait RecordTable {
     ghost records: { Self → Records };
 
     fn len(&self) -> usize
         ensures { result ≡ (records self.now).count };
 
-    fn record(&self, i: usize) -> Record
+    fn record(&self, i: usize) -> Option<Record>
         ensures { result ≡ record_at (records self.now) i };
 }
 
@@ -37,17 +34,17 @@ fn better<T: RecordTable>(table: &T, a: u32, best: Option<usize>, i: usize) -> O
     requires finds_in { FindsIn (T.records table.now) i a best }
     ensures { FindsIn (T.records table.now) (i + 1) a result }
 {
-    let record = table.record(i);
-    if !record.holds(a) {
+    let Some(record) = table.record(i).filter(|r| r.holds(a)) else {
         return best;
-    }
-    match best {
-        Some(j) if record.start <= table.record(j).start => Some(j),
+    };
+    match best.and_then(|j| table.record(j)) {
+        Some(other) if record.start <= other.start => best,
         _ => Some(i),
     }
 }
 
 // The record that holds an address: of several the one that starts last, and of those the first in the table.
+// A rule of the project: the search is over an interface of records by index, and a chain would go through the same range.
 pub fn find<T: RecordTable>(table: &T, a: u32) -> Option<usize>
     ensures { Finds (T.records table.now) a result }
 {

@@ -1,23 +1,27 @@
 ghost use Rattle.image.specs.Numbers.{refusal_number};
-ghost use Rattle.std.specs.Prelude.{◌≡◌};
+ghost use Rattle.std.specs.Fmt.{decimal};
+ghost use Rattle.std.specs.Prelude.{◌≡◌, ◌++◌, Some, codes};
+
+use std::error::Error;
+use std::fmt;
 
 // Why a file, or an index into one of its tables, is refused.
 #[derive(Clone, Copy, PartialEq, Eq, Debug)]
 pub enum Refusal {
     // shorter than a file header, or longer than 64 KiB
-    Size,
+    Size = 1,
     // not a 32-bit little-endian ELF file
-    Identification,
+    Identification = 2,
     // not an executable for RISC-V with no flags
-    FileKind,
+    FileKind = 3,
     // the program header table
-    ProgramTable,
+    ProgramTable = 4,
     // the file range or the memory range of a segment
-    SegmentBounds,
+    SegmentBounds = 5,
     // the entry is not aligned, or in no load segment
-    EntryPoint,
+    EntryPoint = 6,
     // an index past a table
-    Index,
+    Index = 19,
 }
 
 impl Refusal {
@@ -25,14 +29,17 @@ impl Refusal {
     pub fn number(self) -> u8
         ensures { result ≡ refusal_number self }
     {
-        match self {
-            Refusal::Size => 1,
-            Refusal::Identification => 2,
-            Refusal::FileKind => 3,
-            Refusal::ProgramTable => 4,
-            Refusal::SegmentBounds => 5,
-            Refusal::EntryPoint => 6,
-            Refusal::Index => 19,
-        }
+        self as u8
     }
 }
+
+// The same in hart, image, loader and machine: only a type's own crate can give it `Display`, so a shared trait would need an impl in each.
+impl fmt::Display for Refusal {
+    ghost output = { λ r. Some (codes "refused " ++ decimal (refusal_number r)) };
+
+    fn fmt<W: fmt::Write>(&self, f: &mut fmt::Formatter<W>) -> fmt::Result {
+        write!(f, "refused {}", self.number())
+    }
+}
+
+impl Error for Refusal {}

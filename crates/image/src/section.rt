@@ -1,83 +1,66 @@
-ghost use Rattle.std.specs.Prelude.{◌≡◌, ◌+◌, ◌*◌, ◌<◌, ◌≤◌, length};
-ghost use Rattle.image.specs.Symbols.{section_from, section_at, sections_count, sections_place, sections_fit, section_part, section_inside, symbol_index};
+ghost use Rattle.std.specs.Prelude.{◌≡◌, ◌==◌, ℕ, List, if◌then◌else◌, map, Some, None};
+ghost use Rattle.std.specs.List.{find};
+ghost use Rattle.std.specs.Option.{option_map};
+ghost use Rattle.image.specs.Symbols.{section_from, section_part, section_inside, has_symbols, entries_of, names_of};
 
-use crate::fields::{half, word};
-use crate::header::{E_SHENTSIZE, E_SHNUM, E_SHOFF};
+use crate::fields::word;
+use crate::file::File;
 
 // The length of a section header, and the type of a symbol section.
-const SHENTSIZE: u16 = 40;
+pub(crate) const SHENTSIZE: usize = 40;
 
 const SHT_SYMTAB: u32 = 2;
 
 // What is used of a section header.
 #[derive(Clone, Copy)]
 pub struct Section {
+    // sh_type as it stands in the file: an enum of one type and all others would be no plainer than the constant
     pub kind: u32,
     pub offset: u32,
     pub size: u32,
     pub link: u32,
 }
 
-impl Section {
-    // The section header at a place.
-    fn read(bytes: &[u8], at: usize) -> Self
-        requires { at + 40 ≤ length bytes.now }
-        ensures { result ≡ section_from bytes.now at }
-    {
+impl From<&[u8; SHENTSIZE]> for Section {
+    ghost from_gives = { λ row h. h ≡ section_from row.now 0 };
+
+    fn from(row: &[u8; SHENTSIZE]) -> Self {
         Section {
-            kind: word(bytes, at + 4),
-            offset: word(bytes, at + 16),
-            size: word(bytes, at + 20),
-            link: word(bytes, at + 24),
+            kind: word(row, 4),
+            offset: word(row, 16),
+            size: word(row, 20),
+            link: word(row, 24),
         }
     }
+}
 
-    // Section header `i` of a file whose section table lies inside it.
-    pub(crate) fn nth(bytes: &[u8], i: usize) -> Self
-        requires in_bounds { 52 ≤ length bytes.now }
-        requires bytes_in_bounds { sections_place bytes.now + 40 * sections_count bytes.now ≤ length bytes.now }
-        requires i_bound { i < sections_count bytes.now }
-        ensures { result ≡ section_at bytes.now i }
-    {
-        Self::read(bytes, word(bytes, E_SHOFF) as usize + 40 * i)
-    }
-
-    // Whether the section's bytes lie in the file.
-    pub(crate) fn is_inside(&self, bytes: &[u8]) -> bool
-        ensures { result ≡ section_inside bytes.now self.now }
-    {
-        self.offset as usize + self.size as usize <= bytes.len()
-    }
-
-    pub(crate) fn part<'a>(&self, bytes: &'a [u8]) -> &'a [u8]
-        requires { self.now.offset + self.now.size ≤ length bytes.now }
-        ensures { result.now ≡ section_part bytes.now self.now }
+impl Section {
+    // The section's bytes, if they lie in the file.
+    fn part<'a>(&self, bytes: &'a [u8]) -> Option<&'a [u8]>
+        ensures { option_map (λ p. p.now) result ≡ (if section_inside bytes.now self.now then Some (section_part bytes.now self.now) else None) }
     {
         let from = self.offset as usize;
-        &bytes[from..from + self.size as usize]
+        bytes.get(from..from + self.size as usize)
     }
 }
 
-// Whether the section table has headers of the right length and lies in the file.
-pub(crate) fn sections_fit(bytes: &[u8]) -> bool
-    requires { 52 ≤ length bytes.now }
-    ensures { result ≡ sections_fit bytes.now }
+// The first symbol section.
+fn first_symbol_section(headers: &[[u8; SHENTSIZE]]) -> Option<Section>
+    ensures { result ≡ find (λ h. h.kind == 2) (map (λ row. section_from row 0) headers.now) }
 {
-    let end = word(bytes, E_SHOFF) as usize + 40 * half(bytes, E_SHNUM) as usize;
-    half(bytes, E_SHENTSIZE) == SHENTSIZE && end <= bytes.len()
+    headers
+        .iter()
+        .map(Section::from)
+        .find(|h| h.kind == SHT_SYMTAB)
 }
 
-// The number of the first symbol section, or of all sections where there is none.
-pub(crate) fn first_symbol_section(bytes: &[u8]) -> usize
-    requires in_bounds { 52 ≤ length bytes.now }
-    requires bytes_in_bounds { sections_place bytes.now + 40 * sections_count bytes.now ≤ length bytes.now }
-    ensures { result ≡ symbol_index bytes.now }
+// The bytes of the first symbol section and of the section of its names, where both can be read.
+#[tactic(auto, unfolding(crate::specs::Symbols::entries_of, crate::specs::Symbols::names_of), using(crate::proofs::Rows::first_symbols, crate::proofs::Rows::section_row, crate::proofs::Rows::length_chunks))]
+pub(crate) fn symbol_parts<'a>(file: &File<'a>) -> Option<(&'a [u8], &'a [u8])>
+    ensures { option_map {U = List ℕ × List ℕ} (λ p. (p.0.now, p.1.now)) result ≡ (if has_symbols file.now.bytes.now then Some (entries_of file.now.bytes.now, names_of file.now.bytes.now) else None) }
 {
-    let count = half(bytes, E_SHNUM) as usize;
-    for i in 0..count {
-        if Section::nth(bytes, i).kind == SHT_SYMTAB {
-            return i;
-        }
-    }
-    count
+    let headers = file.section_headers()?;
+    let symbols = first_symbol_section(headers)?;
+    let names = Section::from(headers.get(symbols.link as usize)?);
+    Some((symbols.part(file.bytes)?, names.part(file.bytes)?))
 }

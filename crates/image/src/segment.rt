@@ -4,7 +4,7 @@ use crate::header::PT_LOAD;
 use crate::image::Image;
 use crate::records::{Record, RecordTable};
 
-// A segment. Its bytes are a part of the image, and `at` is the part's place in the file.
+// A segment. Its bytes are a part of the image, and `at` is the part's place in the file, which is there by a rule of the project.
 #[derive(Clone, Copy)]
 pub enum Segment<'a> {
     // memory of `size` bytes from `address` on: first the bytes, then zeros
@@ -28,19 +28,16 @@ impl<'a> RecordTable for Image<'a> {
         self.segment_count()
     }
 
-    fn record(&self, i: usize) -> Record {
-        if i >= self.segment_count() {
-            return Record::NONE;
-        }
-        let header = self.header(i);
+    fn record(&self, i: usize) -> Option<Record> {
+        let header = self.header(i)?;
         let size = if header.kind == PT_LOAD {
             header.memsz
         } else {
             0
         };
-        Record {
+        Some(Record {
             start: header.vaddr,
             size,
-        }
+        })
     }
 }

@@ -1,77 +1,48 @@
-ghost use Rattle.std.specs.Prelude.{◌≡◌, ◌≤◌, length, if◌then◌else◌, Some, None};
-ghost use Rattle.image.specs.Symbols.{has_symbols, symbol_section, name_section, entries_of, names_of, symbol_records, symbol_told, symbol_at, FunctionAt};
+ghost use Rattle.std.specs.Prelude.{◌≡◌, ◌*◌, ◌/◌, if◌then◌else◌, nat_lt, length, Some, None};
+ghost use Rattle.image.specs.Symbols.{entries_of, names_of, entry_from, symbol_records, symbol_told, symbol_at, FunctionAt};
 
-use crate::fields::{half, word};
-use crate::header::E_SHNUM;
 use crate::image::Image;
 use crate::records::{Record, RecordTable, find};
 use crate::refusal::Refusal;
-use crate::section::{Section, first_symbol_section, sections_fit};
-use crate::symbol::{Symbol, is_function_info, name_from};
+use crate::section::symbol_parts;
+use crate::symbol::{Entry, SYMENTSIZE, Symbol, is_function_info, name_from};
 
 // The symbols of an image: their 16-byte entries, and the bytes of their names. Both are empty where there are none.
 #[derive(Clone, Copy)]
 pub struct Symbols<'a> {
+    // bytes and no rows: the contracts speak of them, with a last entry that is cut short
     entries: &'a [u8],
     names: &'a [u8],
 }
 
-// The symbol section and that of its names, where both can be read.
-fn symbol_sections(bytes: &[u8]) -> Option<(Section, Section)>
-    requires { 52 ≤ length bytes.now }
-    ensures { result ≡ (if has_symbols bytes.now then Some (symbol_section bytes.now, name_section bytes.now) else None) }
-{
-    if !sections_fit(bytes) {
-        return None;
-    }
-    let i = first_symbol_section(bytes);
-    let count = half(bytes, E_SHNUM) as usize;
-    if i >= count {
-        return None;
-    }
-    let symbols = Section::nth(bytes, i);
-    let link = symbols.link as usize;
-    if !symbols.is_inside(bytes) || link >= count {
-        return None;
-    }
-    let names = Section::nth(bytes, link);
-    if !names.is_inside(bytes) {
-        return None;
-    }
-    Some((symbols, names))
-}
-
 impl<'a> Symbols<'a> {
+    #[tactic(auto, unfolding(crate::specs::Symbols::entries_of, crate::specs::Symbols::names_of))]
     pub fn of(image: &Image<'a>) -> Self
         ensures entries { result.entries.now ≡ entries_of image.now.bytes.now }
         ensures names { result.names.now ≡ names_of image.now.bytes.now }
     {
-        let bytes = image.bytes();
-        match symbol_sections(bytes) {
-            Some((symbols, names)) => Symbols {
-                entries: symbols.part(bytes),
-                names: names.part(bytes),
-            },
-            None => Symbols {
-                entries: &[],
-                names: &[],
-            },
-        }
+        let (entries, names) = symbol_parts(&image.file()).unwrap_or_default();
+        Symbols { entries, names }
+    }
+
+    #[tactic(auto, using(crate::proofs::Rows::entry_row))]
+    fn entry(&self, i: usize) -> Option<Entry>
+        ensures { result ≡ (if nat_lt i (length self.now.entries.now / 16) then Some (entry_from self.now.entries.now (16 * i)) else None) }
+    {
+        let (entries, _cut_short) = self.entries.as_chunks::<SYMENTSIZE>();
+        Some(Entry::from(entries.get(i)?))
     }
 
     // Symbol `i`, in the order of the file.
     pub fn symbol(&self, i: usize) -> Result<Symbol<'a>, Refusal>
         ensures { symbol_told result ≡ symbol_at self.now.entries.now self.now.names.now i }
     {
-        if i >= self.entries.len() / 16 {
-            return Err(Refusal::Index);
-        }
-        let at = 16 * i;
+        let entry = self.entry(i).ok_or(Refusal::Index)?;
         Ok(Symbol {
-            name: name_from(self.names, word(self.entries, at) as usize),
-            value: word(self.entries, at + 4),
-            size: word(self.entries, at + 8),
-            info: self.entries[at + 12],
+            name: name_from(self.names, entry.name as usize),
+            value: entry.value,
+            size: entry.size,
+            info: entry.info,
         })
     }
 
@@ -80,10 +51,7 @@ impl<'a> Symbols<'a> {
         ensures { FunctionAt self.now.entries.now self.now.names.now a result }
     {
         let i = find(self, a)?;
-        match self.symbol(i) {
-            Ok(symbol) => Some(symbol),
-            Err(_) => None,
-        }
+        self.symbol(i).ok()
     }
 }
 
@@ -91,19 +59,19 @@ impl<'a> RecordTable for Symbols<'a> {
     ghost records = { λ x. symbol_records x.entries.now };
 
     fn len(&self) -> usize {
-        self.entries.len() / 16
+        self.entries.len() / SYMENTSIZE
     }
 
-    fn record(&self, i: usize) -> Record {
-        if i >= self.entries.len() / 16 {
-            return Record::NONE;
-        }
-        let start = word(self.entries, 16 * i + 4);
-        let size = if is_function_info(self.entries[16 * i + 12]) {
-            word(self.entries, 16 * i + 8)
+    fn record(&self, i: usize) -> Option<Record> {
+        let entry = self.entry(i)?;
+        let size = if is_function_info(entry.info) {
+            entry.size
         } else {
             0
         };
-        Record { start, size }
+        Some(Record {
+            start: entry.value,
+            size,
+        })
     }
 }

@@ -1,11 +1,7 @@
+// Functions and no `Display`: the types are of other crates, and the text is this script's.
 use image::{Image, RecordTable, Refusal, Segment, Symbols, find};
 use std::io;
 use std::io::Write;
-
-fn show_refusal<W: Write>(out: &mut W, refusal: Refusal) -> io::Result<()> {
-    let number = refusal.number();
-    writeln!(out, "refused {number}")
-}
 
 // The check's answer, and the length of the image then in use.
 pub(crate) fn show_check<W: Write>(
@@ -15,15 +11,13 @@ pub(crate) fn show_check<W: Write>(
 ) -> io::Result<()> {
     match checked {
         Ok(()) => writeln!(out, "taken")?,
-        Err(refusal) => show_refusal(out, refusal)?,
+        Err(refusal) => writeln!(out, "{refusal}")?,
     }
-    let len = image.bytes().len();
-    writeln!(out, "in use {len}")
+    writeln!(out, "in use {}", image.bytes().len())
 }
 
 pub(crate) fn show_entry<W: Write>(out: &mut W, image: &Image) -> io::Result<()> {
-    let entry = image.entry();
-    writeln!(out, "entry {entry:08x}")
+    writeln!(out, "entry {:08x}", image.entry())
 }
 
 pub(crate) fn show_segment<W: Write>(out: &mut W, image: &Image, i: usize) -> io::Result<()> {
@@ -35,44 +29,46 @@ pub(crate) fn show_segment<W: Write>(out: &mut W, image: &Image, i: usize) -> io
                 address,
                 size,
             },
-        ) => {
-            let len = bytes.len();
-            writeln!(out, "load {len} at {at} to {address:08x} size {size}")
-        }
-        Ok(Segment::Note { bytes, at }) => {
-            let len = bytes.len();
-            writeln!(out, "note {len} at {at}")
-        }
+        ) => writeln!(
+            out,
+            "load {} at {at} to {address:08x} size {size}",
+            bytes.len(),
+        ),
+        Ok(Segment::Note { bytes, at }) => writeln!(out, "note {} at {at}", bytes.len()),
         Ok(Segment::Other) => writeln!(out, "other"),
-        Err(refusal) => show_refusal(out, refusal),
+        Err(refusal) => writeln!(out, "{refusal}"),
     }
 }
 
 pub(crate) fn show_symbol<W: Write>(out: &mut W, image: &Image, i: usize) -> io::Result<()> {
     match Symbols::of(image).symbol(i) {
         Ok(symbol) => {
-            let value = symbol.value;
-            let size = symbol.size;
-            let kind = symbol.info % 16;
-            write!(out, "symbol {value:08x} size {size} type {kind} ")?;
+            write!(
+                out,
+                "symbol {:08x} size {} type {} ",
+                symbol.value,
+                symbol.size,
+                symbol.info % 16,
+            )?;
             out.write_all(symbol.name)?;
             writeln!(out, ".")
         }
-        Err(refusal) => show_refusal(out, refusal),
+        Err(refusal) => writeln!(out, "{refusal}"),
     }
 }
 
-fn show_found<W: Write>(out: &mut W, found: Option<usize>) -> io::Result<()> {
-    match found {
+// The number of the record that holds an address.
+fn show_found<W: Write, T: RecordTable>(out: &mut W, table: &T, a: u32) -> io::Result<()> {
+    match find(table, a) {
         Some(i) => writeln!(out, "number {i}"),
         None => writeln!(out, "none"),
     }
 }
 
 pub(crate) fn show_segment_at<W: Write>(out: &mut W, image: &Image, a: u32) -> io::Result<()> {
-    show_found(out, find(image, a))
+    show_found(out, image, a)
 }
 
 pub(crate) fn show_function_at<W: Write>(out: &mut W, image: &Image, a: u32) -> io::Result<()> {
-    show_found(out, find(&Symbols::of(image), a))
+    show_found(out, &Symbols::of(image), a)
 }

@@ -1,6 +1,14 @@
+use std::num::ParseIntError;
+
 // One line of a script.
 #[derive(Clone, Copy)]
 pub enum Command {
+    Edit(Edit),
+    Ask(Question),
+}
+
+#[derive(Clone, Copy)]
+pub enum Edit {
     // start from the built-in image again
     BuiltIn,
     // check the file as it stands before each later check
@@ -11,7 +19,10 @@ pub enum Command {
     Word(u32, u32),
     // cut the file, or add zeros to it
     Length(u32),
-    // questions
+}
+
+#[derive(Clone, Copy)]
+pub enum Question {
     Check,
     Entry,
     Segment(u32),
@@ -21,53 +32,33 @@ pub enum Command {
 }
 
 // A decimal number, or a hexadecimal one after 0x.
-fn number(word: &str) -> Option<u32> {
+fn number(word: &str) -> Result<u32, ParseIntError> {
     match word.strip_prefix("0x") {
-        Some(digits) => u32::from_str_radix(digits, 16).ok(),
-        None => word.parse::<u32>().ok(),
+        Some(digits) => u32::from_str_radix(digits, 16),
+        None => word.parse::<u32>(),
     }
 }
 
 impl Command {
+    // A verb and up to two numbers; what follows them is not looked at.
     pub(crate) fn parse(line: &str) -> Option<Command> {
         let mut words = line.split_whitespace();
         let verb = words.next()?;
-        let Some(first) = words.next() else {
-            return Command::plain(verb);
-        };
-        let first = number(first)?;
-        let Some(second) = words.next() else {
-            return Command::of_one(verb, first);
-        };
-        Command::of_two(verb, first, number(second)?)
-    }
-
-    fn plain(verb: &str) -> Option<Command> {
-        match verb {
-            "builtin" => Some(Command::BuiltIn),
-            "keep" => Some(Command::Keep),
-            "check" => Some(Command::Check),
-            "entry" => Some(Command::Entry),
-            _ => None,
-        }
-    }
-
-    fn of_one(verb: &str, n: u32) -> Option<Command> {
-        match verb {
-            "length" => Some(Command::Length(n)),
-            "segment" => Some(Command::Segment(n)),
-            "segment-at" => Some(Command::SegmentAt(n)),
-            "symbol" => Some(Command::Symbol(n)),
-            "function-at" => Some(Command::FunctionAt(n)),
-            _ => None,
-        }
-    }
-
-    fn of_two(verb: &str, at: u32, value: u32) -> Option<Command> {
-        match verb {
-            "byte" => Some(Command::Byte(at, value)),
-            "half" => Some(Command::Half(at, value)),
-            "word" => Some(Command::Word(at, value)),
+        let first = words.next().map(number).transpose().ok()?;
+        let second = words.next().map(number).transpose().ok()?;
+        match (verb, first, second) {
+            ("builtin", None, None) => Some(Command::Edit(Edit::BuiltIn)),
+            ("keep", None, None) => Some(Command::Edit(Edit::Keep)),
+            ("length", Some(n), None) => Some(Command::Edit(Edit::Length(n))),
+            ("byte", Some(at), Some(value)) => Some(Command::Edit(Edit::Byte(at, value))),
+            ("half", Some(at), Some(value)) => Some(Command::Edit(Edit::Half(at, value))),
+            ("word", Some(at), Some(value)) => Some(Command::Edit(Edit::Word(at, value))),
+            ("check", None, None) => Some(Command::Ask(Question::Check)),
+            ("entry", None, None) => Some(Command::Ask(Question::Entry)),
+            ("segment", Some(i), None) => Some(Command::Ask(Question::Segment(i))),
+            ("segment-at", Some(a), None) => Some(Command::Ask(Question::SegmentAt(a))),
+            ("symbol", Some(i), None) => Some(Command::Ask(Question::Symbol(i))),
+            ("function-at", Some(a), None) => Some(Command::Ask(Question::FunctionAt(a))),
             _ => None,
         }
     }

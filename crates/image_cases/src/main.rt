@@ -6,7 +6,7 @@ mod answers;
 mod command;
 
 use answers::*;
-use command::Command;
+use command::{Command, Edit, Question};
 use image::ImageHolder;
 use std::alloc::AllocError;
 use std::io;
@@ -22,10 +22,8 @@ struct Files {
 impl Files {
     // Puts bytes at a place, as far as the file goes.
     fn put(&mut self, at: u32, bytes: &[u8]) {
-        for (i, b) in bytes.iter().enumerate() {
-            if let Some(place) = self.edited.get_mut((at as usize).saturating_add(i)) {
-                *place = *b;
-            }
+        for (place, b) in self.edited.iter_mut().skip(at as usize).zip(bytes) {
+            *place = *b;
         }
     }
 
@@ -43,34 +41,31 @@ impl Files {
         self.earlier.extend_from_slice(&self.edited)
     }
 
-    // Carries out a command that edits, or prints the answer to one that asks.
-    fn obey<W: Write>(&mut self, out: &mut W, command: Command) -> io::Result<()> {
-        match command {
-            Command::BuiltIn => self.restart()?,
-            Command::Keep => self.keep()?,
-            Command::Byte(at, value) => self.put(at, &value.to_le_bytes()[0..1]),
-            Command::Half(at, value) => self.put(at, &value.to_le_bytes()[0..2]),
-            Command::Word(at, value) => self.put(at, &value.to_le_bytes()),
-            Command::Length(n) => self.edited.resize(n as usize, 0)?,
-            question => self.answer(out, question)?,
+    fn edit(&mut self, edit: Edit) -> io::Result<()> {
+        match edit {
+            Edit::BuiltIn => self.restart()?,
+            Edit::Keep => self.keep()?,
+            Edit::Byte(at, value) => self.put(at, &value.to_le_bytes()[..1]),
+            Edit::Half(at, value) => self.put(at, &value.to_le_bytes()[..2]),
+            Edit::Word(at, value) => self.put(at, &value.to_le_bytes()),
+            Edit::Length(n) => self.edited.resize(n as usize, 0)?,
         }
         Ok(())
     }
 
     // Checks the earlier file and then the edited one, and asks the image then in use.
-    fn answer<W: Write>(&self, out: &mut W, question: Command) -> io::Result<()> {
+    fn answer<W: Write>(&self, out: &mut W, question: Question) -> io::Result<()> {
         let mut holder = ImageHolder::new();
         let _ = holder.check(&self.earlier);
         let checked = holder.check(&self.edited);
         let image = holder.image();
         match question {
-            Command::Check => show_check(out, checked, image),
-            Command::Entry => show_entry(out, image),
-            Command::Segment(i) => show_segment(out, image, i as usize),
-            Command::SegmentAt(a) => show_segment_at(out, image, a),
-            Command::Symbol(i) => show_symbol(out, image, i as usize),
-            Command::FunctionAt(a) => show_function_at(out, image, a),
-            _ => Ok(()),
+            Question::Check => show_check(out, checked, image),
+            Question::Entry => show_entry(out, image),
+            Question::Segment(i) => show_segment(out, image, i as usize),
+            Question::SegmentAt(a) => show_segment_at(out, image, a),
+            Question::Symbol(i) => show_symbol(out, image, i as usize),
+            Question::FunctionAt(a) => show_function_at(out, image, a),
         }
     }
 }
@@ -90,7 +85,8 @@ fn run(rt: &HostRuntime) -> anyhow::Result<()> {
             continue;
         }
         match Command::parse(text) {
-            Some(command) => files.obey(&mut out, command)?,
+            Some(Command::Edit(edit)) => files.edit(edit)?,
+            Some(Command::Ask(question)) => files.answer(&mut out, question)?,
             None => writeln!(out, "?")?,
         }
     }

@@ -9,17 +9,17 @@ module _ {M : Type 0} (f : ℕ → M → Outcome M) (m : M) where
   abbrev pub Ran : ℕ → M → Type 0
   Ran i w = steps f m i ≡ unchanged w
 
-  pub ran-none : Ran 0 m
+  pub ran_none : Ran 0 m
   unfolding steps
-  ran-none = refl
+  ran_none = refl
 
   -- one step more
   more : (i : ℕ) (w : M) → Ran i w → steps f m (i + 1) ≡ f i w
   unfolding steps
   more i w e = rw add-one (ap (λ x. go_on x.value x.next (f i)) e)
 
-  pub ran-more : (i : ℕ) (w v : M) → Ran i w → Ok tt ≡ (f i w).value → v ≡ (f i w).next → Ran (i + 1) v
-  ran-more i w v e p q = more i w e ∙ ap (λ x. record { value = x; next = (f i w).next }) (sym p) ∙ ap unchanged (sym q)
+  pub ran_more : (i : ℕ) (w v : M) → Ran i w → Ok tt ≡ (f i w).value → v ≡ (f i w).next → Ran (i + 1) v
+  ran_more i w v e p q = more i w e ∙ ap (λ x. record { value = x; next = (f i w).next }) (sym p) ∙ ap unchanged (sym q)
 
   -- after a refusal nothing changes any more
   stopped : (i n : ℕ) (w : M) (e : FaultNumbers) → i ≤ n → steps f m i ≡ record { value = Err e; next = w } → steps f m n ≡ record { value = Err e; next = w }

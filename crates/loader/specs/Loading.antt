@@ -1,5 +1,5 @@
 -- Loading an image over a kind of bus: its stores in order, up to the first that is refused.
-use Rattle.std.specs.Prelude.{ℕ, zero, suc, ◌+◌, cond, List, Ok, Err, Result, ◌==◌, slice_index}
+use Rattle.std.specs.Prelude.{ℕ, zero, suc, ◌+◌, if◌then◌else◌, List, Ok, Err, Result, ◌==◌, slice_index}
 use Rattle.bus.specs.declared.access.Width.TheVariants.{Byte}
 use Rattle.bus.specs.Kind.{Kind, Answer}
 use Rattle.bus.specs.Numbers.{FaultNumbers}
@@ -30,7 +30,7 @@ fill K t a n m = steps (λ i w. K.store w (a + i) Byte (slice_index t i)) m n
 abbrev pub load_segment : (K : Kind) → List ℕ → ℕ → K.Meaning → Outcome K.Meaning
 load_segment K s i m =
     let h = header_at s i in
-    cond (h.kind == 1) (fill K (part s h) h.vaddr h.memsz m) (unchanged m)
+    if h.kind == 1 then fill K (part s h) h.vaddr h.memsz m else unchanged m
 
 -- every segment, in the order of the program headers
 abbrev pub load_all : (K : Kind) → List ℕ → K.Meaning → Outcome K.Meaning

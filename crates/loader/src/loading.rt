@@ -1,4 +1,4 @@
-ghost use Rattle.std.specs.Prelude.{◌≡◌, ◌+◌, ◌^◌, ◌<◌, ◌≤◌, true, length, is_ok, slice_index};
+ghost use Rattle.std.specs.Prelude.{◌≡◌, ◌+◌, ◌^◌, ◌<◌, ◌≤◌, true, is_ok};
 ghost use Rattle.bus.specs.Numbers.{numbered};
 ghost use Rattle.image.specs.Headers.{table_count};
 ghost use Rattle.loader.specs.Loading.{fill, load_segment, load_all};
@@ -9,26 +9,16 @@ use crate::refusal::LoadRefusal;
 use bus::{Bus, Fault, Width};
 use image::{Image, Segment};
 
-// The byte at a place, or 0 past the end.
-fn byte_or_zero(bytes: &[u8], i: usize) -> u8
-    ensures inside { i < length bytes.now → result ≡ slice_index bytes.now i }
-    ensures past { length bytes.now ≤ i → result ≡ 0 }
-{
-    if i < bytes.len() { bytes[i] } else { 0 }
-}
-
-// Stores `size` bytes from an address on: those given, and then zeros.
+// Stores `size` bytes from an address on: those given, and then zeros. By count: a range of addresses could not end at 2^32.
+#[tactic(auto, using(crate::proofs::Steps::ran_none))]
 fn fill<B: Bus>(bus: &mut B, address: u32, bytes: &[u8], size: u32) -> Result<(), Fault>
     requires { address + size ≤ 2 ^ 32 }
     ensures value { numbered result ≡ (fill B.Bus.kind bytes.now address size (B.Bus.meaning bus.old)).value }
     ensures next { B.Bus.meaning bus.new ≡ (fill B.Bus.kind bytes.now address size (B.Bus.meaning bus.old)).next }
 {
     for i in 0..size {
-        bus.store(
-            address + i,
-            Width::Byte,
-            u32::from(byte_or_zero(bytes, i as usize)),
-        )?;
+        let byte = bytes.get(i as usize).copied().unwrap_or(0);
+        bus.store(address + i, Width::Byte, u32::from(byte))?;
     }
     Ok(())
 }
@@ -43,16 +33,18 @@ fn load_segment<B: Bus>(bus: &mut B, image: &Image, i: usize) -> Result<(), Faul
         Ok(
             Segment::Load {
                 bytes,
-                at: _,
                 address,
                 size,
+                ..
             },
         ) => fill(bus, address, bytes, size),
         _ => Ok(()),
     }
 }
 
-// Stores the load segments, in the order of the program headers.
+// Stores the load segments, in the order of the program headers. By index: an iterator of segments would be a type more, with laws
+// of its own, for this one loop.
+#[tactic(auto, using(crate::proofs::Steps::ran_none))]
 fn load_all<B: Bus>(bus: &mut B, image: &Image) -> Result<(), Fault>
     ensures value { numbered result ≡ (load_all B.Bus.kind image.now.bytes.now (B.Bus.meaning bus.old)).value }
     ensures next { B.Bus.meaning bus.new ≡ (load_all B.Bus.kind image.now.bytes.now (B.Bus.meaning bus.old)).next }

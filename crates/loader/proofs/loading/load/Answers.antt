@@ -1,9 +1,6 @@
--- What a load leaves follows from the rules of the bus alone.
-use Rattle.std.proofs.Common.{rules}
+-- What a load leaves follows from the rules of the bus alone. They are those of the bound on the bus, which a `using` line cannot name.
 use Rattle.loader.proofs.Placing.{placed}
 use Rattle.loader.proofs.loading.load.Goals as goal
 
-pub returns : goal.returns
-returns g c =
-    let h = c.in_ok-load_all.ensures in
-    record { told = search rules; next = h.next; placed = λ _. placed g.B.Bus.kind g.met.B.Bus.rules _ _ _ h.value h.next }
+pub returns-clause-placed : goal.returns-clause-placed
+returns-clause-placed g c = λ _. placed g.B.Bus.kind g.met.B.Bus.rules _ _ _ c.in_ok-load_all.ensures.value c.in_ok-load_all.ensures.next

@@ -1,10 +1,7 @@
 use Rattle.std.proofs.Common.{arith}
 use Rattle.std.proofs.lemmas.Result.{err_from_is_err_and}
-use Rattle.loader.proofs.Steps.{ran-none, ran-more, refused}
+use Rattle.loader.proofs.Steps.{ran_more, refused}
 use Rattle.loader.proofs.loading.load_all.Goals as goal
-
-pub loop-i-init : goal.loop-i-init
-loop-i-init g c = ran-none _ _
 
 pub returns-in_err-load_segment : goal.returns-in_err-load_segment
 returns-in_err-load_segment g c =
@@ -16,4 +13,4 @@ returns-in_err-load_segment g c =
 pub loop-i-preserved : goal.loop-i-preserved
 loop-i-preserved g c =
     let h = c.in_ok-load_segment.ensures in
-    ran-more _ _ c.loop-i.i _ _ c.loop-i.invariant h.value h.next
+    ran_more _ _ c.loop-i.i _ _ c.loop-i.invariant h.value h.next
