@@ -1,11 +1,14 @@
 -- The control registers: what each reads, and what a write leaves.
-use Rattle.std.specs.Prelude.{ℕ, ◌+◌, ◌*◌, Bool, true, false, cond, ◌&&◌, Some, None, Option, ◌==◌, bit_and, nat_le}
+use Rattle.std.specs.Prelude.{◌≡◌, ℕ, ◌+◌, ◌*◌, Bool, true, false, if◌then◌else◌, ◌&&◌, Some, None, Option, Result, MatchResult, ◌==◌, bit_and, nat_le}
 use Rattle.bus.specs.Kind.{word_of}
 use Rattle.isa.specs.Alu.{flag}
 use Rattle.isa.specs.Fields.{bits}
 use Rattle.hart.specs.declared.control.Control.{Control}
 use Rattle.hart.specs.declared.control.Saved.{Saved}
 use Rattle.hart.specs.declared.control.Status.{Status}
+use Rattle.hart.specs.declared.control_register.ControlRefusal.{ControlRefusal}
+use Rattle.hart.specs.declared.control_register.ControlRegister.{ControlRegister}
+use Rattle.hart.specs.declared.control_register.ControlRegister.TheVariants.{Mstatus, Misa, Mie, Mtvec, Mscratch, Mepc, Mcause, Mtval, Mip, Mvendorid, Marchid, Mimpid, Mhartid}
 
 -- bit i of a word
 abbrev pub bit : ℕ → ℕ → Bool
@@ -25,27 +28,43 @@ fresh_control = record { status = status false false; enabled = 0; pending = 0; 
 
 -- the control registers with another mstatus
 abbrev pub with_status : Status → Control → Control
-with_status v c = record { status = v; enabled = c.enabled; pending = c.pending; mtvec = c.mtvec; mscratch = c.mscratch; saved = c.saved }
+with_status v c = record c { status = v }
 
 -- with another mie
 abbrev pub with_enabled : ℕ → Control → Control
-with_enabled v c = record { status = c.status; enabled = v; pending = c.pending; mtvec = c.mtvec; mscratch = c.mscratch; saved = c.saved }
+with_enabled v c = record c { enabled = v }
 
 -- with another mip
 abbrev pub with_pending : ℕ → Control → Control
-with_pending v c = record { status = c.status; enabled = c.enabled; pending = v; mtvec = c.mtvec; mscratch = c.mscratch; saved = c.saved }
+with_pending v c = record c { pending = v }
 
 -- with another mtvec
 abbrev pub with_mtvec : ℕ → Control → Control
-with_mtvec v c = record { status = c.status; enabled = c.enabled; pending = c.pending; mtvec = v; mscratch = c.mscratch; saved = c.saved }
+with_mtvec v c = record c { mtvec = v }
 
 -- with another mscratch
 abbrev pub with_mscratch : ℕ → Control → Control
-with_mscratch v c = record { status = c.status; enabled = c.enabled; pending = c.pending; mtvec = c.mtvec; mscratch = v; saved = c.saved }
+with_mscratch v c = record c { mscratch = v }
 
 -- with another mepc, mcause and mtval
 abbrev pub with_saved : Saved → Control → Control
-with_saved v c = record { status = c.status; enabled = c.enabled; pending = c.pending; mtvec = c.mtvec; mscratch = c.mscratch; saved = v }
+with_saved v c = record c { saved = v }
+
+-- the number of a register
+abbrev pub control_number : ControlRegister → ℕ
+control_number Mstatus = 0x300
+control_number Misa = 0x301
+control_number Mie = 0x304
+control_number Mtvec = 0x305
+control_number Mscratch = 0x340
+control_number Mepc = 0x341
+control_number Mcause = 0x342
+control_number Mtval = 0x343
+control_number Mip = 0x344
+control_number Mvendorid = 0xf11
+control_number Marchid = 0xf12
+control_number Mimpid = 0xf13
+control_number Mhartid = 0xf14
 
 -- what mstatus reads: bits 12 and 11 stand
 abbrev pub status_word : Status → ℕ
@@ -54,27 +73,33 @@ status_word v = 0x1800 + flag v.mie * 8 + flag v.mpie * 128
 -- what the register of a number reads, if there is one
 abbrev pub reading : Control → ℕ → Option ℕ
 reading c n =
-    cond (n == 0x300) (Some (status_word c.status))
-    (cond (n == 0x301) (Some 0x40001100)
-    (cond (n == 0x304) (Some c.enabled)
-    (cond (n == 0x305) (Some c.mtvec)
-    (cond (n == 0x340) (Some c.mscratch)
-    (cond (n == 0x341) (Some c.saved.mepc)
-    (cond (n == 0x342) (Some c.saved.mcause)
-    (cond (n == 0x343) (Some c.saved.mtval)
-    (cond (n == 0x344) (Some c.pending)
-    (cond (nat_le 0xf11 n && nat_le n 0xf14) (Some 0) None)))))))))
+    if n == 0x300 then Some (status_word c.status)
+    else if n == 0x301 then Some 0x40001100
+    else if n == 0x304 then Some c.enabled
+    else if n == 0x305 then Some c.mtvec
+    else if n == 0x340 then Some c.mscratch
+    else if n == 0x341 then Some c.saved.mepc
+    else if n == 0x342 then Some c.saved.mcause
+    else if n == 0x343 then Some c.saved.mtval
+    else if n == 0x344 then Some c.pending
+    else if nat_le 0xf11 n && nat_le n 0xf14 then Some 0
+    else None
+
+-- the register with a number, or none: no register can be read there
+abbrev pub Names : ℕ → Result ControlRegister ControlRefusal → Type 0
+Names n r = MatchResult r (λ c. control_number c ≡ n) (λ e. (c : Control) → reading c n ≡ None)
 
 -- whether a write is taken, and the registers then
 abbrev pub written : Control → ℕ → ℕ → Bool × Control
 written c n v =
     let t = c.saved in
-    cond (n == 0x300) (true, with_status (status (bit 3 v) (bit 7 v)) c)
-    (cond (n == 0x301) (true, c)
-    (cond (n == 0x304) (true, with_enabled (bit_and v 0x888) c)
-    (cond (n == 0x305) (true, with_mtvec (word_of v) c)
-    (cond (n == 0x340) (true, with_mscratch v c)
-    (cond (n == 0x341) (true, with_saved (saved (word_of v) t.mcause t.mtval) c)
-    (cond (n == 0x342) (true, with_saved (saved t.mepc v t.mtval) c)
-    (cond (n == 0x343) (true, with_saved (saved t.mepc t.mcause v) c)
-    (cond (n == 0x344) (true, c) (false, c)))))))))
+    if n == 0x300 then (true, with_status (status (bit 3 v) (bit 7 v)) c)
+    else if n == 0x301 then (true, c)
+    else if n == 0x304 then (true, with_enabled (bit_and v 0x888) c)
+    else if n == 0x305 then (true, with_mtvec (word_of v) c)
+    else if n == 0x340 then (true, with_mscratch v c)
+    else if n == 0x341 then (true, with_saved (saved (word_of v) t.mcause t.mtval) c)
+    else if n == 0x342 then (true, with_saved (saved t.mepc v t.mtval) c)
+    else if n == 0x343 then (true, with_saved (saved t.mepc t.mcause v) c)
+    else if n == 0x344 then (true, c)
+    else (false, c)

@@ -1,5 +1,5 @@
 -- What an instruction does to a hart, and what it asks of the bus: at most one access.
-use Rattle.std.specs.Prelude.{ℕ, ◌-◌, ◌*◌, ◌/◌, ◌%◌, ◌^◌, Bool, true, false, cond, not, ◌||◌, Some, None, Ok, Err, Option, Result, ◌==◌, bit_and, bit_or}
+use Rattle.std.specs.Prelude.{ℕ, ◌-◌, ◌*◌, ◌/◌, ◌%◌, ◌^◌, Bool, true, false, if◌then◌else◌, not, ◌||◌, Some, None, Ok, Err, Option, Result, ◌==◌, bit_and, bit_or}
 use Rattle.bus.specs.declared.access.Width.{Width}
 use Rattle.bus.specs.Numbers.{FaultNumbers, size}
 use Rattle.isa.specs.declared.instruction.Instruction.{Instruction}
@@ -37,11 +37,11 @@ raises e s = (Err e, s)
 
 -- a jump to the target with a state, unless the target is misaligned
 abbrev pub jumped : (target : ℕ) → (from to : State) → Outcome
-jumped t s u = cond (t % 4 == 0) (goes (go_to t u)) (raises (ex.MisalignedTarget t) s)
+jumped t s u = if t % 4 == 0 then goes (go_to t u) else raises (ex.MisalignedTarget t) s
 
 -- a branch, taken or not
 abbrev pub branched : Bool → ℕ → State → Outcome
-branched taken t s = cond taken (jumped t s s) (goes (next s))
+branched taken t s = if taken then jumped t s s else goes (next s)
 
 -- a jump with the address of the next instruction in rd
 abbrev pub linked : (rd target : ℕ) → State → Outcome
@@ -64,31 +64,39 @@ abbrev pub csr_stored : Bool × Control → (rd old : ℕ) → State → Bool ×
 csr_stored (true, c) rd old s = (true, next (put rd old (with_control c s)))
 csr_stored (false, c) rd old s = (false, s)
 
--- a control register that reads a value, or none
-abbrev pub csr_read : Option ℕ → CsrOp → (rd source : ℕ) → Bool → ℕ → State → Bool × State
-csr_read None op rd v writes n s = (false, s)
-csr_read (Some old) op rd v writes n s =
-    cond writes (csr_stored (written s.control n (combined op old v)) rd old s) (true, next (put rd old s))
+-- the source of a write, or none where nothing is written
+abbrev pub source_if : Bool → ℕ → Option ℕ
+source_if writes v = if writes then Some v else None
+
+-- a control register that reads a value, or none, and a source, or none
+abbrev pub csr_read : Option ℕ → CsrOp → (rd : ℕ) → (source : Option ℕ) → ℕ → State → Bool × State
+csr_read None op rd source n s = (false, s)
+csr_read (Some old) op rd None n s = (true, next (put rd old s))
+csr_read (Some old) op rd (Some v) n s = csr_stored (written s.control n (combined op old v)) rd old s
 
 -- whether a control register has such a use, and the state then
-abbrev pub csr_done : CsrOp → (rd source : ℕ) → Bool → ℕ → State → Bool × State
-csr_done op rd v writes n s = csr_read (reading s.control n) op rd v writes n s
+abbrev pub csr_done : CsrOp → (rd : ℕ) → (source : Option ℕ) → ℕ → State → Bool × State
+csr_done op rd source n s = csr_read (reading s.control n) op rd source n s
 
 -- nothing is asked, or the word is illegal
 abbrev pub legal_if : ℕ → Bool → Result Request Exception
-legal_if w done = cond done (Ok ask.Nothing) (Err (ex.Illegal w))
+legal_if w done = if done then Ok ask.Nothing else Err (ex.Illegal w)
 
 -- and the state with it
 abbrev pub legal : ℕ → Bool × State → Outcome
 legal w (done, s) = (legal_if w done, s)
 
 -- an access, unless its address is no multiple of its width
-abbrev pub asked_load : LoadKind → (rd address : ℕ) → Result Request Exception
-asked_load l rd a = cond (a % size (load_width l) == 0) (Ok (ask.Load l rd a)) (Err (ex.MisalignedLoad a))
+abbrev pub asked : Width → (address : ℕ) → Request → Exception → Result Request Exception
+asked n a r e = if a % size n == 0 then Ok r else Err e
 
--- the same of a store
+-- a load
+abbrev pub asked_load : LoadKind → (rd address : ℕ) → Result Request Exception
+asked_load l rd a = asked (load_width l) a (ask.Load l rd a) (ex.MisalignedLoad a)
+
+-- a store
 abbrev pub asked_store : Width → (address value : ℕ) → Result Request Exception
-asked_store n a v = cond (a % size n == 0) (Ok (ask.Store n a v)) (Err (ex.MisalignedStore a))
+asked_store n a v = asked n a (ask.Store n a v) (ex.MisalignedStore a)
 
 -- an instruction, whose word is w, up to its access
 abbrev pub executed : ℕ → Instruction → State → Outcome
@@ -101,8 +109,8 @@ executed w (Load l rd rs1 v) s = (asked_load l rd (plus (read s rs1) v), s)
 executed w (Store k rs1 rs2 v) s = (asked_store (store_width k) (plus (read s rs1) v) (read s rs2), s)
 executed w (Immediate o rd rs1 v) s = goes (next (put rd (alu_result o (read s rs1) v) s))
 executed w (Op o rd rs1 rs2) s = goes (next (put rd (alu_result o (read s rs1) (read s rs2)) s))
-executed w (Csr o rd rs1 n) s = legal w (csr_done o rd (read s rs1) (not (rs1 == 0) || writes_always o) n s)
-executed w (CsrImmediate o rd v n) s = legal w (csr_done o rd v (not (v == 0) || writes_always o) n s)
+executed w (Csr o rd rs1 n) s = legal w (csr_done o rd (source_if (not (rs1 == 0) || writes_always o) (read s rs1)) n s)
+executed w (CsrImmediate o rd v n) s = legal w (csr_done o rd (source_if (not (v == 0) || writes_always o) v) n s)
 executed w Fence s = goes (next s)
 executed w FenceI s = asks ask.Fence (next s)
 executed w Wfi s = goes (next s)

@@ -1,5 +1,5 @@
 -- Traps, interrupts and the return from them.
-use Rattle.std.specs.Prelude.{ℕ, ◌+◌, ◌*◌, ◌^◌, Bool, true, false, cond, Some, None, Option, bit_and}
+use Rattle.std.specs.Prelude.{ℕ, ◌+◌, ◌*◌, ◌^◌, Bool, true, false, if◌then◌else◌, Some, None, Option, bit_and}
 use Rattle.bus.specs.declared.access.Lines.{Lines}
 use Rattle.bus.specs.Kind.{word_of}
 use Rattle.bus.specs.Numbers.{FaultNumbers}
@@ -13,9 +13,8 @@ use Rattle.hart.specs.State.{State, go_to, with_control}
 abbrev pub trapped : (mcause mtval : ℕ) → Option FaultNumbers → State → State
 trapped cause value fault s =
     let c = s.control in
-    record {
+    record s {
       pc = word_of c.mtvec;
-      x = s.x;
       control = with_status (status false c.status.mie) (with_saved (saved s.pc cause value) c);
       trap = Some record { mcause = cause; mepc = s.pc; mtval = value; fault = fault };
     }
@@ -40,7 +39,12 @@ sensed l s = with_control (with_pending (mip_of l) s.control) s
 
 -- which of the interrupts that are ready is taken, if they are on: 11 before 3 before 7
 abbrev pub chosen : (on : Bool) → (ready : ℕ) → Option ℕ
-chosen on ready = cond on (cond (bit 11 ready) (Some 11) (cond (bit 3 ready) (Some 3) (cond (bit 7 ready) (Some 7) None))) None
+chosen false ready = None
+chosen true ready =
+    if bit 11 ready then Some 11
+    else if bit 3 ready then Some 3
+    else if bit 7 ready then Some 7
+    else None
 
 -- the number of the interrupt to take, if any
 abbrev pub interrupt : State → Option ℕ

@@ -1,23 +1,25 @@
 // The control registers, with their fixed bits and those that drop what is written.
-ghost use Rattle.hart.specs.Control.{fresh_control, reading, written};
-ghost use Rattle.std.specs.Prelude.{◌≡◌};
+ghost use Rattle.hart.specs.Control.{control_number, reading, written};
+ghost use Rattle.std.specs.Prelude.{◌≡◌, is_ok};
+
+use crate::control_register::{ControlRefusal, ControlRegister};
 
 // The bits of mstatus that can be written: interrupts are on, and were on before the last trap.
-#[derive(Clone, Copy)]
+#[derive(Clone, Copy, Default)]
 pub struct Status {
     pub(crate) mie: bool,
     pub(crate) mpie: bool,
 }
 
 // What a trap saves.
-#[derive(Clone, Copy)]
+#[derive(Clone, Copy, Default)]
 pub struct Saved {
     pub(crate) mepc: u32,
     pub(crate) mcause: u32,
     pub(crate) mtval: u32,
 }
 
-#[derive(Clone, Copy)]
+#[derive(Clone, Copy, Default)]
 pub struct Control {
     pub(crate) status: Status,
     // The registers mie and mip.
@@ -29,65 +31,52 @@ pub struct Control {
 }
 
 impl Control {
-    pub(crate) fn new() -> Self
-        ensures { result ≡ fresh_control }
+    pub(crate) fn read(&self, register: ControlRegister) -> u32
+        ensures { reading self.now (control_number register) ≡ Some result }
     {
-        Control {
-            status: Status {
-                mie: false,
-                mpie: false,
-            },
-            enabled: 0,
-            pending: 0,
-            mtvec: 0,
-            mscratch: 0,
-            saved: Saved {
-                mepc: 0,
-                mcause: 0,
-                mtval: 0,
-            },
+        match register {
+            ControlRegister::Mstatus => {
+                0x1800 + u32::from(self.status.mie) * 8 + u32::from(self.status.mpie) * 128
+            }
+            ControlRegister::Misa => 0x4000_1100,
+            ControlRegister::Mie => self.enabled,
+            ControlRegister::Mtvec => self.mtvec,
+            ControlRegister::Mscratch => self.mscratch,
+            ControlRegister::Mepc => self.saved.mepc,
+            ControlRegister::Mcause => self.saved.mcause,
+            ControlRegister::Mtval => self.saved.mtval,
+            ControlRegister::Mip => self.pending,
+            ControlRegister::Mvendorid
+            | ControlRegister::Marchid
+            | ControlRegister::Mimpid
+            | ControlRegister::Mhartid => 0,
         }
     }
 
-    // What the control register of that number reads, if there is one.
-    pub(crate) fn read(&self, number: u16) -> Option<u32>
-        ensures { result ≡ reading self.now number }
+    pub(crate) fn write(
+        &mut self,
+        register: ControlRegister,
+        value: u32,
+    ) -> Result<(), ControlRefusal>
+        ensures { written self.old (control_number register) value ≡ (is_ok result, self.new) }
     {
-        match number {
-            0x300 => Some(
-                0x1800 + u32::from(self.status.mie) * 8 + u32::from(self.status.mpie) * 128,
-            ),
-            0x301 => Some(0x4000_1100),
-            0x304 => Some(self.enabled),
-            0x305 => Some(self.mtvec),
-            0x340 => Some(self.mscratch),
-            0x341 => Some(self.saved.mepc),
-            0x342 => Some(self.saved.mcause),
-            0x343 => Some(self.saved.mtval),
-            0x344 => Some(self.pending),
-            0xf11..=0xf14 => Some(0),
-            _ => None,
-        }
-    }
-
-    // Writes the control register of that number; false where none can be written.
-    pub(crate) fn write(&mut self, number: u16, value: u32) -> bool
-        ensures { written self.old number value ≡ (result, self.new) }
-    {
-        match number {
-            0x300 => {
+        match register {
+            ControlRegister::Mstatus => {
                 self.status.mie = value / 8 % 2 == 1;
                 self.status.mpie = value / 128 % 2 == 1;
             }
-            0x301 | 0x344 => {}
-            0x304 => self.enabled = value & 0x888,
-            0x305 => self.mtvec = value / 4 * 4,
-            0x340 => self.mscratch = value,
-            0x341 => self.saved.mepc = value / 4 * 4,
-            0x342 => self.saved.mcause = value,
-            0x343 => self.saved.mtval = value,
-            _ => return false,
+            ControlRegister::Misa | ControlRegister::Mip => {}
+            ControlRegister::Mie => self.enabled = value & 0x888,
+            ControlRegister::Mtvec => self.mtvec = value / 4 * 4,
+            ControlRegister::Mscratch => self.mscratch = value,
+            ControlRegister::Mepc => self.saved.mepc = value / 4 * 4,
+            ControlRegister::Mcause => self.saved.mcause = value,
+            ControlRegister::Mtval => self.saved.mtval = value,
+            ControlRegister::Mvendorid
+            | ControlRegister::Marchid
+            | ControlRegister::Mimpid
+            | ControlRegister::Mhartid => return Err(ControlRefusal::ReadOnly),
         }
-        true
+        Ok(())
     }
 }

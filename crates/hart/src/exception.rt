@@ -25,6 +25,7 @@ impl Exception {
     pub fn cause(self) -> u32
         ensures { result ≡ cause_of self }
     {
+        // a match: `as` takes no enum whose variants hold values
         match self {
             Exception::MisalignedTarget(_) => 0,
             Exception::FetchFault => 1,

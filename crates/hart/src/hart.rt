@@ -1,14 +1,14 @@
 // A hart: what an instruction changes.
-ghost use Rattle.std.specs.Prelude.{◌≡◌, ◌%◌, slice_index};
-
 use crate::control::Control;
 use bus::Fault;
+use std::marker::Model;
 
 mod execute;
 mod registers;
 mod trapping;
 
-// The record of a trap: what it saved, and the fault of the bus if one caused it.
+// The record of a trap: what it saved, and the fault of the bus if one caused it. It holds no `Saved`: whoever asks for a trap
+// reads `trap.mcause`.
 #[derive(Clone, Copy)]
 pub struct Trap {
     pub mcause: u32,
@@ -17,13 +17,22 @@ pub struct Trap {
     pub fault: Option<Fault>,
 }
 
-// x0 is 0, and pc is a multiple of 4.
 #[derive(Drop)]
 pub struct Hart {
     pc: u32,
     x: [u32; 32],
     control: Control,
     trap: Option<Trap>,
-    ghost zero: { slice_index x 0 ≡ 0 },
-    ghost aligned: { pc % 4 ≡ 0 },
+}
+
+// A contract sees what a hart holds. x0 is 0, and pc is a multiple of 4.
+impl Model for Hart {
+    ghost use Rattle.hart.specs.State.{State, trap_numbers};
+    ghost use Rattle.std.specs.Prelude.{◌≡◌, ◌%◌, slice_index};
+
+    ghost Value = { State };
+
+    ghost view = { λ h. record { pc = h.pc; x = h.x; control = h.control; trap = trap_numbers h.trap } };
+
+    ghost invariant = { λ h. (slice_index h.x 0 ≡ 0) × (h.pc % 4 ≡ 0) };
 }

@@ -2,8 +2,10 @@
 #![tactic(auto)]
 
 mod control;
+mod control_register;
 mod exception;
 mod hart;
+mod interrupt;
 mod refusal;
 mod request;
 mod width;

@@ -1,4 +1,5 @@
-// What an instruction asks of the bus: at most one access.
+// What an instruction asks of the bus: at most one access. `Nothing` is a case and no `None`: the machine goes through all four
+// alike, and with an Option three would be wrapped in `Some`.
 use bus::Width;
 use isa::kind::Load;
 

@@ -5,6 +5,7 @@ ghost use Rattle.std.specs.Prelude.{◌≡◌};
 use bus::Width;
 use isa::kind::{Load, Store};
 
+// No `From<Load> for Width`: a crate cannot give a trait of std to two types of other crates.
 pub fn load_width(op: Load) -> Width
     ensures { result ≡ load_width op }
 {
@@ -15,6 +16,7 @@ pub fn load_width(op: Load) -> Width
     }
 }
 
+// The same of a store.
 pub(crate) fn store_width(op: Store) -> Width
     ensures { result ≡ store_width op }
 {
@@ -29,21 +31,13 @@ pub(crate) fn store_width(op: Store) -> Width
 pub(crate) fn load_value(op: Load, came: u32) -> u32
     ensures { result ≡ load_value op came }
 {
-    let byte = came % 0x100;
-    let half = came % 0x1_0000;
+    let byte = (came % 0x100) as u8;
+    let half = (came % 0x1_0000) as u16;
     match op {
-        Load::Byte => if byte < 0x80 {
-            byte
-        } else {
-            byte + 0xffff_ff00
-        },
-        Load::Half => if half < 0x8000 {
-            half
-        } else {
-            half + 0xffff_0000
-        },
+        Load::Byte => i32::from(byte.cast_signed()).cast_unsigned(),
+        Load::Half => i32::from(half.cast_signed()).cast_unsigned(),
         Load::Word => came,
-        Load::ByteUnsigned => byte,
-        Load::HalfUnsigned => half,
+        Load::ByteUnsigned => u32::from(byte),
+        Load::HalfUnsigned => u32::from(half),
     }
 }

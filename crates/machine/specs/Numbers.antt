@@ -1,10 +1,10 @@
 -- The numbers by which ends and refusals are known outside.
-use Rattle.std.specs.Prelude.{ℕ, Some, None, Ok, Err, Option, Result}
-use Rattle.bus.specs.Numbers.{FaultNumbers, fault_numbers}
+use Rattle.std.specs.Prelude.{ℕ, List, ◌++◌, codes, decimal, Some, None, Ok, Err, Option, Result}
+use Rattle.bus.specs.Numbers.{FaultNumbers, fault_numbers, feed_refusal_number}
 use Rattle.machine.specs.declared.answer.End.{End}
 use Rattle.machine.specs.declared.answer.End.TheVariants.{BudgetUsed, Stopped}
 use Rattle.machine.specs.declared.answer.Refusal.{Refusal}
-use Rattle.machine.specs.declared.answer.Refusal.TheVariants.{Misaligned, Bus, Budget, NoReceiver, Overrun}
+use Rattle.machine.specs.declared.answer.Refusal.TheVariants.{Misaligned, Bus, Budget, Feed}
 use Rattle.machine.specs.declared.answer.Run.{Run}
 
 -- how a run ended
@@ -30,8 +30,11 @@ abbrev pub refusal_numbers : Refusal → RefusalNumbers
 refusal_numbers Misaligned = refused 10
 refusal_numbers (Bus f) = refused_by_bus (fault_numbers f)
 refusal_numbers Budget = refused 12
-refusal_numbers NoReceiver = refused 16
-refusal_numbers Overrun = refused 17
+refusal_numbers (Feed e) = refused (feed_refusal_number e)
+
+-- a refusal as it is printed
+abbrev pub refusal_text : Refusal → List ℕ
+refusal_text e = codes "refused " ++ decimal (refusal_numbers e).number
 
 -- an answer with its refusal in numbers
 abbrev pub told : {R : Type 0} → Result R Refusal → Result R RefusalNumbers

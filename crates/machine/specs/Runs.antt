@@ -1,5 +1,5 @@
 -- Runs and calls of a machine, by its step and its pc.
-use Rattle.std.specs.Prelude.{ℕ, zero, suc, ◌+◌, cond, List, [], ◌++◌, Ok, Err, Result, ◌==◌, nat_le}
+use Rattle.std.specs.Prelude.{ℕ, zero, suc, ◌+◌, if◌then◌else◌, List, [], ◌++◌, Ok, Err, Result, ◌==◌, nat_le}
 use Rattle.machine.specs.declared.answer.End.{End}
 use Rattle.machine.specs.declared.answer.End.TheVariants.{BudgetUsed, Stopped}
 use Rattle.machine.specs.declared.answer.Refusal.TheVariants.{Budget}
@@ -36,7 +36,7 @@ module _ {S : Type 0} (pc : S → ℕ) (step : S → Moved S) where
   -- before each step: an end if the budget is used, else one if pc is the stop address
   unfoldable pub run : (budget stop : ℕ) → S → Ran S
   run zero stop s = ended BudgetUsed 0 s []
-  run (suc n) stop s = cond (pc s == stop) (ended Stopped 0 s []) (resumed 1 (step s).events (run n stop (step s).next))
+  run (suc n) stop s = if pc s == stop then ended Stopped 0 s [] else resumed 1 (step s).events (run n stop (step s).next)
 
 -- the answer to a run that was taken, by what is counted of its events
 abbrev pub run_of : {W S : Type 0} → (List Event → W) → Ran S → RunNumbers W
@@ -49,4 +49,4 @@ answered count r = record { answer = Ok (run_of count r); state = r.next; events
 -- a run, refused above 1,000,000 steps
 abbrev pub run_call : {W S : Type 0} → (S → ℕ) → (S → Moved S) → (List Event → W) → S → (budget stop : ℕ) → Called (Result (RunNumbers W) RefusalNumbers) S
 run_call pc step count s budget stop =
-    cond (nat_le budget 1000000) (answered count (run pc step budget stop s)) (record { answer = Err (refusal_numbers Budget); state = s; events = [] })
+    if nat_le budget 1000000 then answered count (run pc step budget stop s) else record { answer = Err (refusal_numbers Budget); state = s; events = [] }

@@ -1,5 +1,5 @@
 // The plain machine: every word is fetched.
-ghost use Rattle.std.specs.Prelude.{◌≡◌, ◌≤◌};
+ghost use Rattle.std.specs.Prelude.{◌≡◌, ◌%◌, ◌≤◌, Ok, slice_index};
 ghost use Rattle.hart.specs.Refusals.{register_told};
 ghost use Rattle.hart.specs.State.{register_answer, trap_numbers};
 ghost use Rattle.isa.specs.Alu.{flag};
@@ -14,6 +14,7 @@ use bus::Bus;
 use hart::{RegisterRefusal, Trap};
 use isa::decode::decode;
 
+// No `Model`: its value would be made from `B.kind`, and a model's value cannot use a bound's members.
 #[derive(Drop)]
 pub struct Plain<B: Bus> {
     system: System<B>,
@@ -22,7 +23,7 @@ pub struct Plain<B: Bus> {
 impl<B: Bus> Plain<B> {
     // A machine whose hart starts at `entry`, low two bits dropped.
     pub fn new(entry: u32, bus: B) -> Self
-        ensures fresh { plain_of B.kind B.meaning result ≡ plain_fresh B.kind entry (B.meaning bus) }
+        ensures fresh { plain_of B.meaning result ≡ plain_fresh entry (B.meaning bus) }
         ensures holds { result.system.bus ≡ bus }
     {
         Plain {
@@ -31,9 +32,10 @@ impl<B: Bus> Plain<B> {
     }
 
     // Fetches the word at pc, decodes and executes it; whether it came.
+    #[tactic(auto, unfolding(crate::specs::PlainSteps::plain_instruction))]
     fn instruction(&mut self) -> bool
-        ensures next { plain_of B.kind B.meaning self.new ≡ (plain_instruction B.kind (plain_of B.kind B.meaning self.old)).next }
-        ensures count { fetches (plain_instruction B.kind (plain_of B.kind B.meaning self.old)).events ≡ flag result }
+        ensures next { plain_of B.meaning self.new ≡ (plain_instruction B.kind (plain_of B.meaning self.old)).next }
+        ensures count { fetches (plain_instruction B.kind (plain_of B.meaning self.old)).events ≡ flag result }
     {
         match self.system.bus.fetch(self.system.hart.pc()) {
             Ok(word) => {
@@ -48,38 +50,32 @@ impl<B: Bus> Plain<B> {
     }
 
     // One step; whether a word was fetched in it.
+    #[tactic(auto, unfolding(crate::specs::PlainSteps::plain_step))]
     fn step(&mut self) -> bool
-        ensures next { plain_of B.kind B.meaning self.new ≡ (plain_step B.kind (plain_of B.kind B.meaning self.old)).next }
-        ensures count { fetches (plain_step B.kind (plain_of B.kind B.meaning self.old)).events ≡ flag result }
+        ensures next { plain_of B.meaning self.new ≡ (plain_step B.kind (plain_of B.meaning self.old)).next }
+        ensures count { fetches (plain_step B.kind (plain_of B.meaning self.old)).events ≡ flag result }
     {
-        let fetched = if self.system.interrupted() {
-            false
-        } else {
-            self.instruction()
-        };
+        let fetched = !self.system.interrupted() && self.instruction();
         self.system.bus.tick();
         fetched
     }
 
-    // Steps until the budget is used or pc is the stop address.
+    // Steps until the budget is used or pc is the stop address. The loop counts, since `steps` is the answer.
     fn go(&mut self, budget: u32, stop: u32) -> Run<Fetched>
         requires { budget ≤ 1000000 }
-        ensures answer { run_numbers result ≡ run_of (fetched_in B.kind) (run (pc_of B.kind) (plain_step B.kind) budget stop (plain_of B.kind B.meaning self.old)) }
-        ensures next { plain_of B.kind B.meaning self.new ≡ (run (pc_of B.kind) (plain_step B.kind) budget stop (plain_of B.kind B.meaning self.old)).next }
+        ensures answer { run_numbers result ≡ run_of fetched_in (run pc_of (plain_step B.kind) budget stop (plain_of B.meaning self.old)) }
+        ensures next { plain_of B.meaning self.new ≡ (run pc_of (plain_step B.kind) budget stop (plain_of B.meaning self.old)).next }
     {
         let mut fetched = 0;
         for steps in 0..budget {
-            let stopped = self.system.hart.pc() == stop;
-            if stopped {
+            if self.system.hart.pc() == stop {
                 return Run {
                     end: End::Stopped,
                     steps,
                     words: Fetched { fetched },
                 };
             }
-            if self.step() {
-                fetched += 1;
-            }
+            fetched += u32::from(self.step());
         }
         Run {
             end: End::BudgetUsed,
@@ -88,9 +84,10 @@ impl<B: Bus> Plain<B> {
         }
     }
 
+    // The stop is an address and no `Option`: one off a multiple of 4 is never met.
     pub fn run(&mut self, budget: u32, stop: u32) -> Result<Run<Fetched>, Refusal>
-        ensures answer { run_told result ≡ (plain_run B.kind (plain_of B.kind B.meaning self.old) budget stop).answer }
-        ensures next { plain_of B.kind B.meaning self.new ≡ (plain_run B.kind (plain_of B.kind B.meaning self.old) budget stop).state }
+        ensures answer { run_told result ≡ (plain_run B.kind (plain_of B.meaning self.old) budget stop).answer }
+        ensures next { plain_of B.meaning self.new ≡ (plain_run B.kind (plain_of B.meaning self.old) budget stop).state }
     {
         if budget > 1_000_000 {
             return Err(Refusal::Budget);
@@ -100,47 +97,57 @@ impl<B: Bus> Plain<B> {
 
     // Passes a byte to the bus.
     pub fn feed(&mut self, byte: u8) -> Result<(), Refusal>
-        ensures answer { told result ≡ (plain_feed B.kind (plain_of B.kind B.meaning self.old) byte).answer }
-        ensures next { plain_of B.kind B.meaning self.new ≡ (plain_feed B.kind (plain_of B.kind B.meaning self.old) byte).state }
+        ensures answer { told result ≡ (plain_feed B.kind (plain_of B.meaning self.old) byte).answer }
+        ensures next { plain_of B.meaning self.new ≡ (plain_feed B.kind (plain_of B.meaning self.old) byte).state }
     {
         self.system.feed(byte)
     }
 
     // Stores a word.
     pub fn poke(&mut self, address: u32, value: u32) -> Result<(), Refusal>
-        ensures answer { told result ≡ (plain_poke B.kind (plain_of B.kind B.meaning self.old) address value).answer }
-        ensures next { plain_of B.kind B.meaning self.new ≡ (plain_poke B.kind (plain_of B.kind B.meaning self.old) address value).state }
+        ensures answer { told result ≡ (plain_poke B.kind (plain_of B.meaning self.old) address value).answer }
+        ensures next { plain_of B.meaning self.new ≡ (plain_poke B.kind (plain_of B.meaning self.old) address value).state }
     {
         self.system.poke(address, value)
     }
 
     // Does nothing: this machine keeps no word.
     pub fn flush(&mut self)
-        ensures { plain_of B.kind B.meaning self.new ≡ (plain_flush B.kind (plain_of B.kind B.meaning self.old)).state }
+        ensures { plain_of B.meaning self.new ≡ (plain_flush (plain_of B.meaning self.old)).state }
     {}
 
     pub fn register(&self, i: u32) -> Result<u32, RegisterRefusal>
-        ensures { register_told result ≡ register_answer i (plain_of B.kind B.meaning self.now).hart }
+        ensures answer { register_told result ≡ register_answer i (plain_of B.meaning self.now).hart }
+        ensures zero { i ≡ 0 → register_told result ≡ Ok 0 }
     {
         self.system.hart.register(i)
     }
 
+    // All 32 registers, x0 first.
+    pub fn registers(&self) -> [u32; 32]
+        ensures value { result ≡ (plain_of B.meaning self.now).hart.x }
+        ensures zero { slice_index result 0 ≡ 0 }
+    {
+        self.system.hart.registers()
+    }
+
     pub fn pc(&self) -> u32
-        ensures { result ≡ (plain_of B.kind B.meaning self.now).hart.pc }
+        ensures value { result ≡ (plain_of B.meaning self.now).hart.pc }
+        ensures aligned { result % 4 ≡ 0 }
     {
         self.system.hart.pc()
     }
 
     // The record of the last trap, if there was one.
     pub fn trap(&self) -> Option<Trap>
-        ensures { trap_numbers result ≡ (plain_of B.kind B.meaning self.now).hart.trap }
+        ensures { trap_numbers result ≡ (plain_of B.meaning self.now).hart.trap }
     {
         self.system.hart.trap()
     }
 
     // The byte that the bus sent out as number `index`, from 0.
     pub fn sent(&self, index: usize) -> Option<u8>
-        ensures { result ≡ B.kind.sent (plain_of B.kind B.meaning self.now).meaning index }
+        ensures { result ≡ B.kind.sent (plain_of B.meaning self.now).meaning index }
     {
         self.system.bus.sent(index)
     }

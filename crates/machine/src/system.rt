@@ -1,14 +1,14 @@
 // A hart on its bus: what every machine does, however the words come.
 ghost use Rattle.bus.specs.Numbers.{numbered};
 ghost use Rattle.hart.specs.Execute.{begun};
-ghost use Rattle.hart.specs.State.{fresh, state_of};
+ghost use Rattle.hart.specs.State.{fresh};
 ghost use Rattle.hart.specs.Traps.{latched};
 ghost use Rattle.machine.specs.Acts.{act, acted, effect_of, fed, poked};
 ghost use Rattle.machine.specs.Numbers.{told};
 ghost use Rattle.std.specs.Prelude.{◌≡◌};
 
 use crate::answer::Refusal;
-use bus::{Bus, Fault, Feed, Width};
+use bus::{Bus, Fault, Width};
 use hart::{Hart, Request, load_width};
 use isa::instruction::Instruction;
 
@@ -18,7 +18,7 @@ pub struct System<B: Bus> {
     pub(crate) bus: B,
 }
 
-// What an instruction did that bears on words fetched earlier.
+// What an instruction did that bears on words fetched earlier. `Nothing` is a case and no `None`, as in `Request`.
 #[derive(Clone, Copy)]
 pub enum Effect {
     Nothing,
@@ -39,7 +39,7 @@ fn effect_of(address: u32, answer: Result<(), Fault>) -> Effect
 
 impl<B: Bus> System<B> {
     pub(crate) fn new(entry: u32, bus: B) -> Self
-        ensures hart { state_of result.hart ≡ fresh entry }
+        ensures hart { result.hart ≡ fresh entry }
         ensures bus { result.bus ≡ bus }
     {
         System {
@@ -50,15 +50,15 @@ impl<B: Bus> System<B> {
 
     // Reads the lines into mip; whether an interrupt was taken.
     pub(crate) fn interrupted(&mut self) -> bool
-        ensures hart { latched (B.kind.lines (B.meaning self.old.bus)) (state_of self.old.hart) ≡ (result, state_of self.new.hart) }
+        ensures hart { latched (B.kind.lines (B.meaning self.old.bus)) self.old.hart ≡ (result, self.new.hart) }
         ensures bus { B.meaning self.new.bus ≡ B.meaning self.old.bus }
     {
         self.hart.latch(self.bus.lines())
     }
 
-    // Executes an instruction, its access of the bus included.
+    // Executes an instruction, its access of the bus included. The word stands beside it as in `Hart::begin`.
     pub(crate) fn perform(&mut self, word: u32, i: Instruction) -> Effect
-        ensures { act B.kind (begun word i (state_of self.old.hart)) (B.meaning self.old.bus) ≡ acted B.kind (state_of self.new.hart) (B.meaning self.new.bus) result }
+        ensures { act B.kind (begun word i self.old.hart) (B.meaning self.old.bus) ≡ acted self.new.hart (B.meaning self.new.bus) result }
     {
         match self.hart.begin(word, i) {
             Request::Nothing => Effect::Nothing,
@@ -84,27 +84,22 @@ impl<B: Bus> System<B> {
     pub(crate) fn poke(&mut self, address: u32, value: u32) -> Result<(), Refusal>
         ensures value { told result ≡ (poked B.kind (B.meaning self.old.bus) address value).value }
         ensures next { B.meaning self.new.bus ≡ (poked B.kind (B.meaning self.old.bus) address value).next }
-        ensures hart { state_of self.new.hart ≡ state_of self.old.hart }
+        ensures hart { self.new.hart ≡ self.old.hart }
     {
         if address % 4 != 0 {
             return Err(Refusal::Misaligned);
         }
-        match self.bus.store(address, Width::Word, value) {
-            Ok(()) => Ok(()),
-            Err(fault) => Err(Refusal::Bus(fault)),
-        }
+        self.bus.store(address, Width::Word, value)?;
+        Ok(())
     }
 
     // Passes a byte to the bus.
     pub(crate) fn feed(&mut self, byte: u8) -> Result<(), Refusal>
         ensures value { told result ≡ (fed B.kind (B.meaning self.old.bus) byte).value }
         ensures next { B.meaning self.new.bus ≡ (fed B.kind (B.meaning self.old.bus) byte).next }
-        ensures hart { state_of self.new.hart ≡ state_of self.old.hart }
+        ensures hart { self.new.hart ≡ self.old.hart }
     {
-        match self.bus.feed(byte) {
-            Feed::Taken => Ok(()),
-            Feed::Overrun => Err(Refusal::Overrun),
-            Feed::NoReceiver => Err(Refusal::NoReceiver),
-        }
+        self.bus.feed(byte)?;
+        Ok(())
     }
 }

@@ -1,27 +1,14 @@
-use bus::Fault;
+// Functions and no `Display`: the types are of other crates, and the text is this script's.
 use hart::{RegisterRefusal, Trap};
 use machine::{Fetched, Refusal, Run};
 use std::io;
 use std::io::Write;
 
-fn show_fault<W: Write>(out: &mut W, fault: Fault) -> io::Result<()> {
-    let cause = fault.cause.number();
-    let address = fault.address;
-    let device = fault.device.number();
-    let depth = fault.depth;
-    write!(
-        out,
-        " fault {cause} address {address:08x} device {device} depth {depth}"
-    )
-}
-
-fn show_refusal<W: Write>(out: &mut W, refusal: Refusal) -> io::Result<()> {
-    let number = refusal.number();
-    write!(out, "refused {number}")?;
-    if let Refusal::Bus(fault) = refusal {
-        show_fault(out, fault)?;
+pub(crate) fn show_refusal<W: Write>(out: &mut W, refusal: Refusal) -> io::Result<()> {
+    match refusal {
+        Refusal::Bus(fault) => writeln!(out, "{refusal} fault {fault}"),
+        _ => writeln!(out, "{refusal}"),
     }
-    writeln!(out, "")
 }
 
 pub(crate) fn show_done<W: Write>(out: &mut W, answer: Result<(), Refusal>) -> io::Result<()> {
@@ -36,12 +23,13 @@ pub(crate) fn show_run<W: Write>(
     answer: Result<Run<Fetched>, Refusal>,
 ) -> io::Result<()> {
     match answer {
-        Ok(run) => {
-            let end = run.end.number();
-            let steps = run.steps;
-            let fetched = run.words.fetched;
-            writeln!(out, "end {end} steps {steps} fetched {fetched}")
-        }
+        Ok(run) => writeln!(
+            out,
+            "end {} steps {} fetched {}",
+            run.end.number(),
+            run.steps,
+            run.words.fetched
+        ),
         Err(refusal) => show_refusal(out, refusal),
     }
 }
@@ -52,10 +40,7 @@ pub(crate) fn show_register<W: Write>(
 ) -> io::Result<()> {
     match answer {
         Ok(value) => writeln!(out, "holds {value:08x}"),
-        Err(refusal) => {
-            let number = refusal.number();
-            writeln!(out, "refused {number}")
-        }
+        Err(refusal) => writeln!(out, "{refusal}"),
     }
 }
 
@@ -63,14 +48,15 @@ pub(crate) fn show_trap<W: Write>(out: &mut W, trap: Option<Trap>) -> io::Result
     let Some(trap) = trap else {
         return writeln!(out, "none");
     };
-    let mcause = trap.mcause;
-    let mepc = trap.mepc;
-    let mtval = trap.mtval;
-    write!(out, "trap {mcause:08x} {mepc:08x} {mtval:08x}")?;
-    if let Some(fault) = trap.fault {
-        show_fault(out, fault)?;
+    write!(
+        out,
+        "trap {:08x} {:08x} {:08x}",
+        trap.mcause, trap.mepc, trap.mtval
+    )?;
+    match trap.fault {
+        Some(fault) => writeln!(out, " fault {fault}"),
+        None => writeln!(out, ""),
     }
-    writeln!(out, "")
 }
 
 pub(crate) fn show_sent<W: Write>(out: &mut W, sent: Option<u8>) -> io::Result<()> {

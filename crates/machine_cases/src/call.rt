@@ -1,8 +1,16 @@
+use std::num::ParseIntError;
+
 // A line of a script. Numbers are hexadecimal.
 #[derive(Clone, Copy)]
-pub enum Call {
+pub enum Line {
     // a fresh machine at an entry
     Start(u32),
+    // a call of the machine
+    Call(Call),
+}
+
+#[derive(Clone, Copy)]
+pub enum Call {
     // a poke whose answer is shown only if it is refused
     Code(u32, u32),
     Poke(u32, u32),
@@ -15,44 +23,38 @@ pub enum Call {
     Sent(u32),
 }
 
-impl Call {
-    pub(crate) fn parse(line: &str) -> Option<Call> {
+// The number that the line goes on with, if it goes on. As in `device_cases`: a crate for one line of parsing would be longer than both.
+fn number(word: Option<&str>) -> Result<Option<u32>, ParseIntError> {
+    word.map(|digits| u32::from_str_radix(digits, 16))
+        .transpose()
+}
+
+impl Line {
+    // Words after a verb and two numbers are a comment.
+    pub(crate) fn parse(line: &str) -> Option<Line> {
         let mut words = line.split_whitespace();
         let verb = words.next()?;
-        let Some(first) = words.next() else {
-            return Call::plain(verb);
-        };
-        let first = u32::from_str_radix(first, 16).ok()?;
-        match words.next() {
-            None => Call::of_one(verb, first),
-            Some(second) => Call::of_two(verb, first, u32::from_str_radix(second, 16).ok()?),
+        let first = number(words.next()).ok()?;
+        let second = number(words.next()).ok()?;
+        match (verb, first, second) {
+            ("start", Some(entry), None) => Some(Line::Start(entry)),
+            _ => Some(Line::Call(Call::of(verb, first, second)?)),
         }
     }
+}
 
-    fn plain(verb: &str) -> Option<Call> {
-        match verb {
-            "flush" => Some(Call::Flush),
-            "pc" => Some(Call::Pc),
-            "trap" => Some(Call::Trap),
-            _ => None,
-        }
-    }
-
-    fn of_one(verb: &str, n: u32) -> Option<Call> {
-        match verb {
-            "start" => Some(Call::Start(n)),
-            "feed" => Some(Call::Feed(u8::try_from(n).ok()?)),
-            "register" => Some(Call::Register(n)),
-            "sent" => Some(Call::Sent(n)),
-            _ => None,
-        }
-    }
-
-    fn of_two(verb: &str, a: u32, b: u32) -> Option<Call> {
-        match verb {
-            "code" => Some(Call::Code(a, b)),
-            "poke" => Some(Call::Poke(a, b)),
-            "run" => Some(Call::Run(a, b)),
+impl Call {
+    fn of(verb: &str, first: Option<u32>, second: Option<u32>) -> Option<Call> {
+        match (verb, first, second) {
+            ("code", Some(address), Some(word)) => Some(Call::Code(address, word)),
+            ("poke", Some(address), Some(word)) => Some(Call::Poke(address, word)),
+            ("feed", Some(byte), None) => Some(Call::Feed(u8::try_from(byte).ok()?)),
+            ("flush", None, None) => Some(Call::Flush),
+            ("run", Some(budget), Some(stop)) => Some(Call::Run(budget, stop)),
+            ("register", Some(i), None) => Some(Call::Register(i)),
+            ("pc", None, None) => Some(Call::Pc),
+            ("trap", None, None) => Some(Call::Trap),
+            ("sent", Some(i), None) => Some(Call::Sent(i)),
             _ => None,
         }
     }

@@ -8,18 +8,16 @@ mod call;
 use answers::*;
 use board::{Board, fresh_board};
 use bus::Bus;
-use call::Call;
+use call::{Call, Line};
 use machine::Plain;
 use std::io;
 use std::io::{BufWriter, Write};
 
 fn make<W: Write>(out: &mut W, machine: &mut Plain<Board>, call: Call) -> io::Result<()> {
     match call {
-        // made by its caller
-        Call::Start(_) => Ok(()),
         Call::Code(address, word) => match machine.poke(address, word) {
             Ok(()) => Ok(()),
-            refused => show_done(out, refused),
+            Err(refusal) => show_refusal(out, refusal),
         },
         Call::Poke(address, word) => show_done(out, machine.poke(address, word)),
         Call::Feed(byte) => show_done(out, machine.feed(byte)),
@@ -29,10 +27,7 @@ fn make<W: Write>(out: &mut W, machine: &mut Plain<Board>, call: Call) -> io::Re
         }
         Call::Run(budget, stop) => show_run(out, machine.run(budget, stop)),
         Call::Register(i) => show_register(out, machine.register(i)),
-        Call::Pc => {
-            let pc = machine.pc();
-            writeln!(out, "pc {pc:08x}")
-        }
+        Call::Pc => writeln!(out, "pc {:08x}", machine.pc()),
         Call::Trap => show_trap(out, machine.trap()),
         Call::Sent(i) => show_sent(out, machine.sent(i as usize)),
     }
@@ -49,9 +44,9 @@ fn run(rt: &HostRuntime) -> anyhow::Result<()> {
             writeln!(out, "{text}")?;
             continue;
         }
-        match Call::parse(text) {
-            Some(Call::Start(entry)) => machine = Plain::new(entry, fresh_board(heap)?),
-            Some(call) => make(&mut out, &mut machine, call)?,
+        match Line::parse(text) {
+            Some(Line::Start(entry)) => machine = Plain::new(entry, fresh_board(heap)?),
+            Some(Line::Call(call)) => make(&mut out, &mut machine, call)?,
             None => writeln!(out, "?")?,
         }
     }

@@ -1,10 +1,10 @@
 -- Runs stop at the first step at which they must, and can be cut.
-use Rattle.std.proofs.Common.{◌≡◌, ℕ, zero, suc, ◌+◌, ◌<◌, Bool, true, false, eqb, ◌⊎◌, List, [], ◌++◌, sym, refl, ap, ◌∙◌, inl, inr, ⊎_elim, append_assoc, append-nil, suc-add, zero-add, arith}
+use Rattle.std.proofs.Common.{◌≡◌, ℕ, zero, suc, ◌+◌, ◌<◌, Bool, true, false, eqb, ◌⊎◌, [], sym, refl, ap, ◌∙◌, inl, inr, ⊎_elim, suc-add, zero-add, arith}
 use Rattle.std.proofs.lemmas.Bool.{cond_both, cases_Bool, true≢false, false≢true, eqb-true, eqb-false}
 use Rattle.machine.specs.declared.answer.End.{End}
 use Rattle.machine.specs.declared.answer.End.TheVariants.{BudgetUsed, Stopped}
-use Rattle.machine.specs.Events.{Event}
 use Rattle.machine.specs.Runs.{Moved, Ran, ended, resumed, run}
+use Rattle.machine.proofs.Running.{whole, twice}
 use Rattle.machine_laws.specs.RunLaws.{after, StopsFirst, Cut}
 
 abbrev is_stopped : End → Bool
@@ -40,21 +40,10 @@ module _ {S : Type 0} (pc : S → ℕ) (step : S → Moved S) where
       (λ t. record { state = refl; not_before = λ k l e. absurd (omega arith); why = inr (refl, omega arith, eqb-true (pc s) stop t) })
       (λ t. later n stop s (eqb-false (pc s) stop t) (run pc step n stop (step s).next) (stops_first n stop (step s).next))
 
-  whole : (r : Ran S) → r ≡ resumed 0 [] r
-  whole r =
-      ap (λ (k : ℕ). ended r.end k r.next r.events) (sym (zero-add r.steps))
-      ∙ ap (λ (l : List Event). ended r.end (0 + r.steps) r.next l) (sym (append-nil r.events))
-
-  twice : (j k : ℕ) (es ds : List Event) (r : Ran S) → resumed j es (resumed k ds r) ≡ resumed (j + k) (ds ++ es) r
-  twice j k es ds r =
-      let z : j + (k + r.steps) ≡ j + k + r.steps = omega arith in
-      ap (λ (i : ℕ). ended r.end i r.next ((r.events ++ ds) ++ es)) z
-      ∙ ap (λ (l : List Event). ended r.end (j + k + r.steps) r.next l) (append_assoc r.events ds es)
-
   goes-on-at : (n k stop : ℕ) (s : S) → (run pc step n stop s).end ≡ BudgetUsed
       → run pc step (n + k) stop s ≡ resumed (run pc step n stop s).steps (run pc step n stop s).events (run pc step k stop (run pc step n stop s).next)
   unfolding run
-  goes-on-at zero k stop s e = rw (zero-add k) (whole (run pc step k stop s))
+  goes-on-at zero k stop s e = rw (zero-add k) (sym (whole (run pc step k stop s)))
   goes-on-at (suc n) k stop s e =
       let q = (step s).next in
       let r = run pc step n stop q in

@@ -1,13 +1,14 @@
 -- x0 stays 0, and pc a multiple of 4.
-use Rattle.std.proofs.Common.{◌≡◌, ℕ, ◌*◌, ◌/◌, ◌%◌, Bool, true, false, not, ◌||◌, eqb, List, get_or, set, Some, None, Ok, Err, Option, Result, sym, refl, ap, ◌∙◌, arith}
+use Rattle.std.proofs.Common.{◌≡◌, ℕ, ◌*◌, ◌/◌, ◌%◌, Bool, true, false, not, ◌||◌, eqb, List, get_or, Some, None, Ok, Err, Option, Result, refl, ap, ◌∙◌, arith}
 use Rattle.std.proofs.lemmas.List.{get_or-set_other}
-use Rattle.std.proofs.lemmas.Bool.{cond_both, eqb-true, eqb-false}
+use Rattle.std.proofs.lemmas.Bool.Decides.{nat_tests}
+use Rattle.std.proofs.lemmas.Bool.{cond_both, eqb-true}
 use Rattle.bus.specs.Kind.{Kind, word_of}
 use Rattle.bus.specs.Numbers.{FaultNumbers}
 use Rattle.hart.specs.declared.control.Control.{Control}
 use Rattle.hart.specs.declared.request.Request.TheVariants as ask
 use Rattle.hart.specs.Control.{reading, written}
-use Rattle.hart.specs.Execute.{Outcome, jumped, csr_stored, csr_read, combined, legal, writes_always, executed, settled, begun, loaded, stored, unfetched}
+use Rattle.hart.specs.Execute.{Outcome, jumped, csr_stored, csr_read, source_if, combined, legal, writes_always, executed, settled, begun, loaded, stored, unfetched}
 use Rattle.hart.specs.State.{State, read, plus, next, put, go_to, with_control}
 use Rattle.hart.specs.Traps.{sensed, interrupt, taking, latched}
 use Rattle.hart.specs.Widths.{load_width, load_value}
@@ -32,8 +33,7 @@ put-sound : (i v : ℕ) (s : State) → Sound s → Sound (put i v s)
 put-sound i v s h =
     record {
       zero_register =
-          cond_both (eqb (i % 32) 0) s.x (set s.x (i % 32) v) (λ (x : List ℕ). get_or x 0 0 ≡ 0) (λ q. h.zero_register)
-          (λ q. get_or-set_other s.x (i % 32) 0 v 0 (λ e. eqb-false (i % 32) 0 q (sym e)) ∙ h.zero_register);
+          grind (arith, nat_tests, get_or-set_other s.x (i % 32) 0 v 0, h.zero_register);
       aligned = h.aligned;
     }
 
@@ -53,10 +53,10 @@ stored-sound : (w : ℕ) (p : Bool × Control) (rd old : ℕ) (s : State) → So
 stored-sound w (true, c) rd old s h = next-sound (put rd old (with_control c s)) (put-sound rd old (with_control c s) (control-sound c s h))
 stored-sound w (false, c) rd old s h = h
 
-csr-sound : (w : ℕ) (r : Option ℕ) (op : CsrOp) (rd v : ℕ) (b : Bool) (n : ℕ) (s : State) → Sound s → SoundIn (legal w (csr_read r op rd v b n s))
-csr-sound w None op rd v b n s h = h
-csr-sound w (Some old) op rd v true n s h = stored-sound w (written s.control n (combined op old v)) rd old s h
-csr-sound w (Some old) op rd v false n s h = next-sound (put rd old s) (put-sound rd old s h)
+csr-sound : (w : ℕ) (r : Option ℕ) (op : CsrOp) (rd : ℕ) (v : Option ℕ) (n : ℕ) (s : State) → Sound s → SoundIn (legal w (csr_read r op rd v n s))
+csr-sound w None op rd v n s h = h
+csr-sound w (Some old) op rd (Some v) n s h = stored-sound w (written s.control n (combined op old v)) rd old s h
+csr-sound w (Some old) op rd None n s h = next-sound (put rd old s) (put-sound rd old s h)
 
 module _ (s : State) (h : Sound s) where
   -- a result is written, and the next instruction follows
@@ -73,8 +73,8 @@ module _ (s : State) (h : Sound s) where
   executed-sound w (Store k rs1 rs2 v) = h
   executed-sound w (Immediate o rd rs1 v) = finished rd _
   executed-sound w (Op o rd rs1 rs2) = finished rd _
-  executed-sound w (Csr o rd rs1 n) = csr-sound w (reading s.control n) o rd (read s rs1) (not (eqb rs1 0) || writes_always o) n s h
-  executed-sound w (CsrImmediate o rd v n) = csr-sound w (reading s.control n) o rd v (not (eqb v 0) || writes_always o) n s h
+  executed-sound w (Csr o rd rs1 n) = csr-sound w (reading s.control n) o rd (source_if (not (eqb rs1 0) || writes_always o) (read s rs1)) n s h
+  executed-sound w (CsrImmediate o rd v n) = csr-sound w (reading s.control n) o rd (source_if (not (eqb v 0) || writes_always o) v) n s h
   executed-sound w Fence = next-sound s h
   executed-sound w FenceI = next-sound s h
   executed-sound w Ecall = h
@@ -98,14 +98,14 @@ module _ (s : State) (h : Sound s) where
   stored-at-sound a (Err f) = trap-sound _ refl refl
 
 module _ (K : Kind) (m : K.Meaning) where
-  act-sound : (a : ℕ) (o : Outcome) → SoundIn o → Sound (plain_acted K a (act K (settled o) m)).next.hart
+  act-sound : (a : ℕ) (o : Outcome) → SoundIn o → Sound (plain_acted a (act K (settled o) m)).next.hart
   act-sound a (Ok ask.Nothing, s) h = h
   act-sound a (Ok ask.Fence, s) h = h
   act-sound a (Ok (ask.Load l rd b), s) h = loaded-sound s h l rd b (K.load m b (load_width l)).value
   act-sound a (Ok (ask.Store n b v), s) h = stored-at-sound s h b (K.store m b n v).value
   act-sound a (Err e, s) h = trap-sound s h _ refl refl
 
-  fetched-sound : (s : State) → Sound s → (r : Result ℕ FaultNumbers) → Sound (plain_fetched K (plain K s m) r).next.hart
+  fetched-sound : (s : State) → Sound s → (r : Result ℕ FaultNumbers) → Sound (plain_fetched K (plain s m) r).next.hart
   unfolding begun unfetched
   fetched-sound s h (Ok w) = act-sound s.pc (executed w (decoded w) s) (executed-sound s h w (decoded w))
   fetched-sound s h (Err f) = trap-sound s h _ refl refl
@@ -115,11 +115,11 @@ module _ (K : Kind) (m : K.Meaning) where
   latched-sound s h (Some n) = trap-sound s h _ refl refl
   latched-sound s h None = fetched-sound s h (K.fetch m s.pc)
 
-step-sound : (K : Kind) (p : PlainState K) → Sound p.hart → Sound (plain_step K p).next.hart
+step-sound : (K : Kind) (p : PlainState K.Meaning) → Sound p.hart → Sound (plain_step K p).next.hart
 unfolding plain_step latched
 step-sound K p h =
     let s = sensed (K.lines p.meaning) p.hart in
     latched-sound K p.meaning s (moved p.hart s h refl h.aligned) (interrupt s)
 
-pub steps-stay-sound : (K : Kind) → StepsStaySound K
-steps-stay-sound K = record { at_first = λ entry. record { zero_register = refl; aligned = word-aligned entry }; then = step-sound K }
+pub steps_stay_sound : (K : Kind) → StepsStaySound K
+steps_stay_sound K = record { at_first = λ entry. record { zero_register = refl; aligned = word-aligned entry }; then = step-sound K }

@@ -9,7 +9,7 @@ use Rattle.hart.specs.declared.request.Request.{Request}
 use Rattle.hart.specs.declared.request.Request.TheVariants as ask
 use Rattle.hart.specs.Control.{reading, written}
 use Rattle.hart.specs.Exceptions.{cause_of, value_of}
-use Rattle.hart.specs.Execute.{Outcome, goes, jumped, csr_stored, csr_read, combined, legal, writes_always, executed, settled, begun, loaded, stored, unfetched}
+use Rattle.hart.specs.Execute.{Outcome, goes, jumped, csr_stored, csr_read, source_if, combined, legal, writes_always, executed, settled, begun, loaded, stored, unfetched}
 use Rattle.hart.specs.State.{State, read, plus, next, put, go_to}
 use Rattle.hart.specs.Traps.{trapped, raised, sensed, interrupt, taking, latched}
 use Rattle.hart.specs.Widths.{load_width}
@@ -23,8 +23,8 @@ use Rattle.machine.specs.Acts.{act}
 use Rattle.machine.specs.PlainSteps.{PlainState, plain, plain_acted, plain_fetched, plain_instruction, plain_latched, plain_step}
 use Rattle.machine_laws.specs.TrapLaws.{OnlyTraps, TrapsChangeNothing, ReturnUndoesTrap}
 
-pub return-undoes-trap : ReturnUndoesTrap
-return-undoes-trap s cause value fault h = record { pc = omega arith; registers = refl; interrupts = refl; before = refl }
+pub return_undoes_trap : ReturnUndoesTrap
+return_undoes_trap s cause value fault h = record { pc = omega arith; registers = refl; interrupts = refl; before = refl }
 
 -- neither stopped by an exception nor waiting for the bus
 abbrev finished : Result Request Exception → Bool
@@ -48,10 +48,10 @@ stored-leaves : (w : ℕ) (p : Bool × Control) (rd old : ℕ) (s : State) → L
 stored-leaves w (true, c) rd old s = went s _ refl
 stored-leaves w (false, c) rd old s = (refl, λ e. refl)
 
-csr-leaves : (w : ℕ) (r : Option ℕ) (op : CsrOp) (rd v : ℕ) (b : Bool) (n : ℕ) (s : State) → Leaves s (legal w (csr_read r op rd v b n s))
-csr-leaves w None op rd v b n s = (refl, λ e. refl)
-csr-leaves w (Some old) op rd v true n s = stored-leaves w (written s.control n (combined op old v)) rd old s
-csr-leaves w (Some old) op rd v false n s = went s _ refl
+csr-leaves : (w : ℕ) (r : Option ℕ) (op : CsrOp) (rd : ℕ) (v : Option ℕ) (n : ℕ) (s : State) → Leaves s (legal w (csr_read r op rd v n s))
+csr-leaves w None op rd v n s = (refl, λ e. refl)
+csr-leaves w (Some old) op rd (Some v) n s = stored-leaves w (written s.control n (combined op old v)) rd old s
+csr-leaves w (Some old) op rd None n s = went s _ refl
 
 executed-leaves : (w : ℕ) (i : Instruction) (s : State) → Leaves s (executed w i s)
 executed-leaves w (Lui rd v) s = went s _ refl
@@ -63,8 +63,8 @@ executed-leaves w (Load l rd rs1 v) s = (refl, λ e. refl)
 executed-leaves w (Store k rs1 rs2 v) s = (refl, λ e. refl)
 executed-leaves w (Immediate o rd rs1 v) s = went s _ refl
 executed-leaves w (Op o rd rs1 rs2) s = went s _ refl
-executed-leaves w (Csr o rd rs1 n) s = csr-leaves w (reading s.control n) o rd (read s rs1) (not (eqb rs1 0) || writes_always o) n s
-executed-leaves w (CsrImmediate o rd v n) s = csr-leaves w (reading s.control n) o rd v (not (eqb v 0) || writes_always o) n s
+executed-leaves w (Csr o rd rs1 n) s = csr-leaves w (reading s.control n) o rd (source_if (not (eqb rs1 0) || writes_always o) (read s rs1)) n s
+executed-leaves w (CsrImmediate o rd v n) s = csr-leaves w (reading s.control n) o rd (source_if (not (eqb v 0) || writes_always o) v) n s
 executed-leaves w Fence s = went s _ refl
 executed-leaves w FenceI s = (refl, λ e. absurd (true≢false e))
 executed-leaves w Ecall s = (refl, λ e. refl)
@@ -75,28 +75,28 @@ executed-leaves w Unknown s = (refl, λ e. refl)
 
 module _ (K : Kind) (rules : Rules K) where
   -- from s and m, q is a trap and nothing else
-  record Trapped (s : State) (m : K.Meaning) (q : PlainState K) : Type 0 where
+  record Trapped (s : State) (m : K.Meaning) (q : PlainState K.Meaning) : Type 0 where
     cause : ℕ
     value : ℕ
     fault : Option FaultNumbers
     state : q.hart ≡ trapped cause value fault s
     bus : q.meaning ≡ m
 
-  abbrev Kept : State → K.Meaning → PlainState K → Type 0
+  abbrev Kept : State → K.Meaning → PlainState K.Meaning → Type 0
   Kept s m q = (q.hart.trap ≡ s.trap) ⊎ Trapped s m q
 
   module _ (s : State) (m : K.Meaning) where
-    load_kept : (l : LoadKind) (rd a : ℕ) (t : State) → t ≡ s → (r : Result ℕ FaultNumbers) (n : K.Meaning) → (is_ok r ≡ false → n ≡ m) → Kept s m (plain K (loaded l rd a r t) n)
+    load_kept : (l : LoadKind) (rd a : ℕ) (t : State) → t ≡ s → (r : Result ℕ FaultNumbers) (n : K.Meaning) → (is_ok r ≡ false → n ≡ m) → Kept s m (plain (loaded l rd a r t) n)
     unfolding loaded
     load_kept l rd a t e (Ok v) n g = inl (ap (λ (u : State). u.trap) e)
     load_kept l rd a t e (Err f) n g = inr record { cause = 5; value = a; fault = Some f; state = ap (trapped 5 a (Some f)) e; bus = g refl }
 
-    store_kept : (a : ℕ) (t : State) → t ≡ s → (r : Result (Unit {0}) FaultNumbers) (n : K.Meaning) → (is_ok r ≡ false → n ≡ m) → Kept s m (plain K (stored a r t) n)
+    store_kept : (a : ℕ) (t : State) → t ≡ s → (r : Result (Unit {0}) FaultNumbers) (n : K.Meaning) → (is_ok r ≡ false → n ≡ m) → Kept s m (plain (stored a r t) n)
     unfolding stored
     store_kept a t e (Ok u) n g = inl (ap (λ (u : State). u.trap) e)
     store_kept a t e (Err f) n g = inr record { cause = 7; value = a; fault = Some f; state = ap (trapped 7 a (Some f)) e; bus = g refl }
 
-    act-kept : (pc : ℕ) (o : Outcome) → Leaves s o → Kept s m (plain_acted K pc (act K (settled o) m)).next
+    act-kept : (pc : ℕ) (o : Outcome) → Leaves s o → Kept s m (plain_acted pc (act K (settled o) m)).next
     act-kept pc (Ok ask.Nothing, t) (h, l) = inl h
     act-kept pc (Ok ask.Fence, t) (h, l) = inl h
     act-kept pc (Ok (ask.Load k rd a), t) (h, l) =
@@ -107,7 +107,7 @@ module _ (K : Kind) (rules : Rules K) where
         store_kept a t (l refl) r.value r.next (rules.refused_store_changes_nothing m a n v)
     act-kept pc (Err e, t) (h, l) = inr record { cause = cause_of e; value = value_of e s.pc; fault = None; state = ap (raised e None) (l refl); bus = refl }
 
-    fetched-kept : (r : Result ℕ FaultNumbers) → Kept s m (plain_fetched K (plain K s m) r).next
+    fetched-kept : (r : Result ℕ FaultNumbers) → Kept s m (plain_fetched K (plain s m) r).next
     unfolding begun unfetched
     fetched-kept (Ok w) = act-kept s.pc (executed w (decoded w) s) (executed-leaves w (decoded w) s)
     fetched-kept (Err f) = inr record { cause = 1; value = s.pc; fault = Some f; state = refl; bus = refl }
@@ -117,8 +117,8 @@ module _ (K : Kind) (rules : Rules K) where
     latched-kept (Some n) = inr record { cause = 2 ^ 31 + n; value = 0; fault = None; state = refl; bus = refl }
     latched-kept None = fetched-kept (K.fetch m s.pc)
 
-  ticked-kept : (p t : PlainState K) → Kept (sensed (K.lines p.meaning) p.hart) p.meaning t
-      → (t.hart.trap ≡ p.hart.trap) ⊎ OnlyTraps K p (plain K t.hart (K.tick t.meaning))
+  ticked-kept : (p t : PlainState K.Meaning) → Kept (sensed (K.lines p.meaning) p.hart) p.meaning t
+      → (t.hart.trap ≡ p.hart.trap) ⊎ OnlyTraps K p (plain t.hart (K.tick t.meaning))
   ticked-kept p t (inl h) = inl h
   ticked-kept p t (inr r) =
       let v = p.hart.control.mtvec in
@@ -132,8 +132,8 @@ module _ (K : Kind) (rules : Rules K) where
         before = ap (λ (s : State). s.control.status.mpie) r.state;
       }
 
-  pub traps-change-nothing : TrapsChangeNothing K
+  pub traps_change_nothing : TrapsChangeNothing K
   unfolding plain_step latched
-  traps-change-nothing p =
+  traps_change_nothing p =
       let s = sensed (K.lines p.meaning) p.hart in
       ticked-kept p (plain_latched K (taking (interrupt s) s) p.meaning).next (latched-kept s p.meaning (interrupt s))

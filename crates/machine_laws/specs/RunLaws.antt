@@ -28,8 +28,8 @@ module _ {S : Type 0} (pc : S → ℕ) (step : S → Moved S) where
 
 -- every run of the plain machine does
 abbrev pub RunsStopFirst : Kind → Type 0
-RunsStopFirst K = (budget stop : ℕ) (p : PlainState K) → StopsFirst (pc_of K) (plain_step K) budget stop p (run (pc_of K) (plain_step K) budget stop p)
+RunsStopFirst K = (budget stop : ℕ) (p : PlainState K.Meaning) → StopsFirst pc_of (plain_step K) budget stop p (run pc_of (plain_step K) budget stop p)
 
 -- every run of the plain machine can be cut
 abbrev pub RunsCanBeCut : Kind → Type 0
-RunsCanBeCut K = (n k stop : ℕ) (p : PlainState K) → Cut (pc_of K) (plain_step K) n k stop p
+RunsCanBeCut K = (n k stop : ℕ) (p : PlainState K.Meaning) → Cut pc_of (plain_step K) n k stop p

@@ -8,7 +8,7 @@ use Rattle.machine.specs.PlainSteps.{PlainState, plain_step}
 
 -- the step from p is a trap and nothing else: the registers are left, the bus only ticks, and the hart goes to its
 -- handler with interrupts off
-pub record OnlyTraps (K : Kind) (p q : PlainState K) : Type 0 where
+pub record OnlyTraps (K : Kind) (p q : PlainState K.Meaning) : Type 0 where
   pub registers : q.hart.x ≡ p.hart.x
   pub bus : q.meaning ≡ K.tick p.meaning
   pub handler : q.hart.pc ≡ p.hart.control.mtvec - p.hart.control.mtvec % 4
@@ -18,7 +18,7 @@ pub record OnlyTraps (K : Kind) (p q : PlainState K) : Type 0 where
 
 -- a step leaves the record of the last trap as it is, or is a trap and nothing else
 abbrev pub TrapsChangeNothing : Kind → Type 0
-TrapsChangeNothing K = (p : PlainState K) → let q = (plain_step K p).next in (q.hart.trap ≡ p.hart.trap) ⊎ OnlyTraps K p q
+TrapsChangeNothing K = (p : PlainState K.Meaning) → let q = (plain_step K p).next in (q.hart.trap ≡ p.hart.trap) ⊎ OnlyTraps K p q
 
 -- what MRET restores of the state before a trap
 pub record Restored (s r : State) : Type 0 where

@@ -33,26 +33,26 @@ const LOOP: [u32; 10] = [
 fn prepared(heap: Global) -> anyhow::Result<Plain<Board>> {
     let mut machine = Plain::new(BASE, fresh_board(heap)?);
     for (i, word) in LOOP.iter().enumerate() {
-        if machine.poke(BASE + 4 * i as u32, *word).is_err() {
-            return Err(anyhow!("the loop does not fit"));
-        }
+        machine
+            .poke(BASE + 4 * i as u32, *word)
+            .map_err(|_| anyhow!("the loop does not fit"))?;
     }
     Ok(machine)
 }
 
 fn show_once(rt: &HostRuntime) -> anyhow::Result<()> {
     let mut machine = prepared(rt.alloc())?;
-    let Ok(run) = machine.run(BUDGET, NO_STOP) else {
-        return Err(anyhow!("the run was refused"));
-    };
-    let steps = run.steps;
-    let fetched = run.words.fetched;
-    let pc = machine.pc();
-    println!(rt; "plain steps {steps} fetched {fetched} pc {pc:08x}")?;
-    for i in 5..9 {
-        if let Ok(value) = machine.register(i) {
-            println!(rt; "x{i:02} {value:08x}")?;
-        }
+    let run = machine
+        .run(BUDGET, NO_STOP)
+        .map_err(|_| anyhow!("the run was refused"))?;
+    println!(rt;
+        "plain steps {} fetched {} pc {:08x}",
+        run.steps,
+        run.words.fetched,
+        machine.pc()
+    )?;
+    for (i, value) in machine.registers().iter().enumerate().skip(5).take(4) {
+        println!(rt; "x{i:02} {value:08x}")?;
     }
     Ok(())
 }
@@ -61,7 +61,7 @@ fn show_timed(rt: &HostRuntime, runs: u32) -> anyhow::Result<()> {
     let mut machine = prepared(rt.alloc())?;
     let start = Instant::now(rt)?;
     for _ in 0..runs {
-        let _ = machine.run(BUDGET, NO_STOP);
+        machine.run(BUDGET, NO_STOP)?;
     }
     let millis = start.elapsed(rt)?.as_millis();
     println!(rt; "plain: {runs} million steps in {millis} ms")?;

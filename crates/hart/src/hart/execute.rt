@@ -1,10 +1,11 @@
 // What each instruction does to a hart.
 ghost use Rattle.bus.specs.Numbers.{fault_numbers, numbered};
-ghost use Rattle.hart.specs.Execute.{asked_load, asked_store, asks, begun, branched, combined, csr_done, executed, goes, legal_if, linked, loaded, stored, unfetched, writes_always};
-ghost use Rattle.hart.specs.State.{next, plus, put, read, state_of};
+ghost use Rattle.hart.specs.Execute.{asked, asked_load, asked_store, asks, begun, branched, combined, csr_done, executed, goes, legal_if, linked, loaded, stored, unfetched, writes_always};
+ghost use Rattle.hart.specs.State.{next, plus, put, read};
 ghost use Rattle.hart.specs.Traps.{returned};
-ghost use Rattle.std.specs.Prelude.{◌≡◌};
+ghost use Rattle.std.specs.Prelude.{◌≡◌, is_ok};
 
+use crate::control_register::{ControlRefusal, ControlRegister};
 use crate::exception::Exception;
 use crate::hart::Hart;
 use crate::request::Request;
@@ -16,28 +17,38 @@ use isa::kind::{CsrOp, Load};
 // What an instruction asks of the bus, or the exception that stops it.
 type Outcome = Result<Request, Exception>;
 
+// An access, unless its address is no multiple of its width.
+fn aligned(width: Width, address: u32, request: Request, exception: Exception) -> Outcome
+    ensures { result ≡ asked width address request exception }
+{
+    if width.divides(address) {
+        Ok(request)
+    } else {
+        Err(exception)
+    }
+}
+
 fn ask_load(op: Load, rd: u8, address: u32) -> Outcome
     ensures { result ≡ asked_load op rd address }
 {
-    if load_width(op).divides(address) {
-        Ok(Request::Load { op, rd, address })
-    } else {
-        Err(Exception::MisalignedLoad(address))
-    }
+    let request = Request::Load { op, rd, address };
+    aligned(
+        load_width(op),
+        address,
+        request,
+        Exception::MisalignedLoad(address),
+    )
 }
 
 fn ask_store(width: Width, address: u32, value: u32) -> Outcome
     ensures { result ≡ asked_store width address value }
 {
-    if width.divides(address) {
-        Ok(Request::Store {
-            width,
-            address,
-            value,
-        })
-    } else {
-        Err(Exception::MisalignedStore(address))
-    }
+    let request = Request::Store {
+        width,
+        address,
+        value,
+    };
+    aligned(width, address, request, Exception::MisalignedStore(address))
 }
 
 // CSRRW writes whatever its source is; CSRRS and CSRRC write only from a source other than x0 or 0.
@@ -61,20 +72,17 @@ fn combine(op: CsrOp, old: u32, source: u32) -> u32
 }
 
 // Nothing is asked, or the word is illegal.
-fn legal(word: u32, done: bool) -> Outcome
-    ensures { result ≡ legal_if word done }
+fn legal(word: u32, done: Result<(), ControlRefusal>) -> Outcome
+    ensures { result ≡ legal_if word (is_ok done) }
 {
-    if done {
-        Ok(Request::Nothing)
-    } else {
-        Err(Exception::Illegal(word))
-    }
+    done.map_err(|_| Exception::Illegal(word))?;
+    Ok(Request::Nothing)
 }
 
 impl Hart {
     // Writes a result, and goes on to the next instruction.
     fn finish(&mut self, rd: u8, value: u32) -> Outcome
-        ensures { goes (next (put rd value (state_of self.old))) ≡ (result, state_of self.new) }
+        ensures { goes (next (put rd value self.old)) ≡ (result, self.new) }
     {
         self.set(rd, value);
         self.advance();
@@ -83,14 +91,14 @@ impl Hart {
 
     // Goes on to the next instruction, and does nothing else itself.
     fn pass(&mut self, request: Request) -> Outcome
-        ensures { asks request (next (state_of self.old)) ≡ (result, state_of self.new) }
+        ensures { asks request (next self.old) ≡ (result, self.new) }
     {
         self.advance();
         Ok(request)
     }
 
     fn mret(&mut self) -> Outcome
-        ensures { goes (returned (state_of self.old)) ≡ (result, state_of self.new) }
+        ensures { goes (returned self.old) ≡ (result, self.new) }
     {
         self.leave_trap();
         Ok(Request::Nothing)
@@ -98,14 +106,14 @@ impl Hart {
 
     // The address of a load, a store or JALR.
     fn address(&self, rs1: u8, imm: u32) -> u32
-        ensures { result ≡ plus (read (state_of self.now) rs1) imm }
+        ensures { result ≡ plus (read self.now rs1) imm }
     {
         self.get(rs1).wrapping_add(imm)
     }
 
     // A branch, taken or not.
     fn branch(&mut self, taken: bool, target: u32) -> Outcome
-        ensures { branched taken target (state_of self.old) ≡ (result, state_of self.new) }
+        ensures { branched taken target self.old ≡ (result, self.new) }
     {
         if !taken {
             return self.pass(Request::Nothing);
@@ -119,7 +127,7 @@ impl Hart {
 
     // Jumps, with the address of the next instruction in rd.
     fn link(&mut self, rd: u8, target: u32) -> Outcome
-        ensures { linked rd target (state_of self.old) ≡ (result, state_of self.new) }
+        ensures { linked rd target self.old ≡ (result, self.new) }
     {
         let next = self.pc.wrapping_add(4);
         if target % 4 != 0 {
@@ -130,23 +138,28 @@ impl Hart {
         Ok(Request::Nothing)
     }
 
-    // Reads a control register into rd, and writes it from a source if `writes` says so; false where it has no such use.
-    fn csr(&mut self, op: CsrOp, rd: u8, source: u32, writes: bool, number: u16) -> bool
-        ensures { csr_done op rd source writes number (state_of self.old) ≡ (result, state_of self.new) }
+    // Reads a control register into rd, and writes it from the source, if there is one.
+    fn csr(
+        &mut self,
+        op: CsrOp,
+        rd: u8,
+        source: Option<u32>,
+        number: u16,
+    ) -> Result<(), ControlRefusal>
+        ensures { csr_done op rd source number self.old ≡ (is_ok result, self.new) }
     {
-        let Some(old) = self.control.read(number) else {
-            return false;
-        };
-        if writes && !self.control.write(number, combine(op, old, source)) {
-            return false;
+        let register = ControlRegister::try_from(number)?;
+        let old = self.control.read(register);
+        if let Some(source) = source {
+            self.control.write(register, combine(op, old, source))?;
         }
         self.set(rd, old);
         self.advance();
-        true
+        Ok(())
     }
 
     fn execute(&mut self, word: u32, i: Instruction) -> Outcome
-        ensures { executed word i (state_of self.old) ≡ (result, state_of self.new) }
+        ensures { executed word i self.old ≡ (result, self.new) }
     {
         match i {
             Instruction::Lui { rd, imm } => self.finish(rd, imm),
@@ -168,12 +181,12 @@ impl Hart {
                 self.finish(rd, op.apply(self.get(rs1), self.get(rs2)))
             }
             Instruction::Csr { op, rd, rs1, csr } => {
-                let writes = rs1 != 0 || always_writes(op);
-                legal(word, self.csr(op, rd, self.get(rs1), writes, csr))
+                let source = (rs1 != 0 || always_writes(op)).then(|| self.get(rs1));
+                legal(word, self.csr(op, rd, source, csr))
             }
             Instruction::CsrImmediate { op, rd, imm, csr } => {
-                let writes = imm != 0 || always_writes(op);
-                legal(word, self.csr(op, rd, u32::from(imm), writes, csr))
+                let source = (imm != 0 || always_writes(op)).then(|| u32::from(imm));
+                legal(word, self.csr(op, rd, source, csr))
             }
             Instruction::Fence | Instruction::Wfi => self.pass(Request::Nothing),
             Instruction::FenceI => self.pass(Request::Fence),
@@ -185,8 +198,10 @@ impl Hart {
     }
 
     // Carries out an instruction up to its access of the bus; an exception is taken as a trap.
+    // The word stands beside its instruction: a pair would say no more, or ask of callers that the one is decoded from the other.
+    #[tactic(auto, unfolding(crate::specs::Execute::begun))]
     pub fn begin(&mut self, word: u32, i: Instruction) -> Request
-        ensures { begun word i (state_of self.old) ≡ (result, state_of self.new) }
+        ensures { begun word i self.old ≡ (result, self.new) }
     {
         match self.execute(word, i) {
             Ok(request) => request,
@@ -197,9 +212,10 @@ impl Hart {
         }
     }
 
-    // Ends a load with what the bus answered.
+    // Ends a load with what the bus answered. It takes the parts of `Request::Load`: a struct of them would add a name and no fact.
+    #[tactic(auto, unfolding(crate::specs::Execute::loaded))]
     pub fn end_load(&mut self, op: Load, rd: u8, address: u32, answer: Result<u32, Fault>)
-        ensures { state_of self.new ≡ loaded op rd address (numbered answer) (state_of self.old) }
+        ensures { self.new ≡ loaded op rd address (numbered answer) self.old }
     {
         match answer {
             Ok(came) => {
@@ -211,8 +227,9 @@ impl Hart {
     }
 
     // Ends a store with what the bus answered.
+    #[tactic(auto, unfolding(crate::specs::Execute::stored))]
     pub fn end_store(&mut self, address: u32, answer: Result<(), Fault>)
-        ensures { state_of self.new ≡ stored address (numbered answer) (state_of self.old) }
+        ensures { self.new ≡ stored address (numbered answer) self.old }
     {
         match answer {
             Ok(()) => self.advance(),
@@ -221,8 +238,9 @@ impl Hart {
     }
 
     // Takes the trap of a fetch that the bus refused.
+    #[tactic(auto, unfolding(crate::specs::Execute::unfetched))]
     pub fn fail_fetch(&mut self, fault: Fault)
-        ensures { state_of self.new ≡ unfetched (fault_numbers fault) (state_of self.old) }
+        ensures { self.new ≡ unfetched (fault_numbers fault) self.old }
     {
         self.raise(Exception::FetchFault, Some(fault));
     }

@@ -1,14 +1,18 @@
 // Traps, interrupts and the return from them.
+ghost use Rattle.hart.specs.Interrupts.{interrupt_number};
 ghost use Rattle.hart.specs.Traps.{interrupt, interrupted, latched, mip_of, raised, returned, trapped};
-ghost use Rattle.hart.specs.State.{faults_of, state_of};
+ghost use Rattle.hart.specs.State.{faults_of};
+ghost use Rattle.std.specs.Option.{option_map};
 ghost use Rattle.std.specs.Prelude.{◌≡◌};
 
 use crate::control::{Saved, Status};
 use crate::exception::Exception;
 use crate::hart::{Hart, Trap};
+use crate::interrupt::Interrupt;
 use bus::{Fault, Lines};
 
-// The lines as the bits of mip.
+// The lines as the bits of mip, whose places are the hart's, not the bus's. No `From<Lines> for u32`: a crate cannot give a trait of
+// std to two types of other crates.
 fn mip(lines: Lines) -> u32
     ensures { result ≡ mip_of lines }
 {
@@ -18,7 +22,7 @@ fn mip(lines: Lines) -> u32
 impl Hart {
     // Takes a trap: saves what stands, switches interrupts off, and goes to mtvec.
     fn trap_to(&mut self, mcause: u32, mtval: u32, fault: Option<Fault>)
-        ensures { state_of self.new ≡ trapped mcause mtval (faults_of fault) (state_of self.old) }
+        ensures { self.new ≡ trapped mcause mtval (faults_of fault) self.old }
     {
         let mepc = self.pc;
         self.control.saved = Saved {
@@ -40,36 +44,36 @@ impl Hart {
     }
 
     pub(crate) fn raise(&mut self, e: Exception, fault: Option<Fault>)
-        ensures { state_of self.new ≡ raised e (faults_of fault) (state_of self.old) }
+        ensures { self.new ≡ raised e (faults_of fault) self.old }
     {
         self.trap_to(e.cause(), e.value(self.pc), fault);
     }
 
-    // The number of the interrupt to take, if any: 11 before 3 before 7.
-    fn due(&self) -> Option<u32>
-        ensures { result ≡ interrupt (state_of self.now) }
+    // The interrupt to take, if any: the external one before the software's before the timer's.
+    fn due(&self) -> Option<Interrupt>
+        ensures { option_map interrupt_number result ≡ interrupt self.now }
     {
         if !self.control.status.mie {
             return None;
         }
         let ready = self.control.pending & self.control.enabled;
         if ready / 2048 % 2 == 1 {
-            Some(11)
+            Some(Interrupt::External)
         } else if ready / 8 % 2 == 1 {
-            Some(3)
+            Some(Interrupt::Software)
         } else if ready / 128 % 2 == 1 {
-            Some(7)
+            Some(Interrupt::Timer)
         } else {
             None
         }
     }
 
     fn take_due(&mut self) -> bool
-        ensures { interrupted (state_of self.old) ≡ (result, state_of self.new) }
+        ensures { interrupted self.old ≡ (result, self.new) }
     {
         match self.due() {
-            Some(number) => {
-                self.trap_to(0x8000_0000 | number, 0, None);
+            Some(interrupt) => {
+                self.trap_to(interrupt.cause(), 0, None);
                 true
             }
             None => false,
@@ -77,8 +81,9 @@ impl Hart {
     }
 
     // The start of a step: reads the lines into mip, and takes an interrupt if one is due.
+    #[tactic(auto, unfolding(crate::specs::Traps::latched))]
     pub fn latch(&mut self, lines: Lines) -> bool
-        ensures { latched lines (state_of self.old) ≡ (result, state_of self.new) }
+        ensures { latched lines self.old ≡ (result, self.new) }
     {
         let pending = mip(lines);
         self.control.pending = pending;
@@ -90,7 +95,7 @@ impl Hart {
 
     // MRET.
     pub(crate) fn leave_trap(&mut self)
-        ensures { state_of self.new ≡ returned (state_of self.old) }
+        ensures { self.new ≡ returned self.old }
     {
         self.control.status = Status {
             mie: self.control.status.mpie,

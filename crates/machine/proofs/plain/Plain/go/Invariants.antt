@@ -8,5 +8,9 @@ abbrev pub invariant-loop-steps : goal.invariant-loop-steps
 invariant-loop-steps g l =
     let k = g.B.Bus.kind in
     let m = g.B.Bus.meaning in
-    (es : List Event) × (fetches es ≡ l.fetched) × (l.fetched ≤ l.steps)
-    × Sofar (pc_of k) (plain_step k) l.budget l.stop (plain_of k m l.initial.self) l.steps es (plain_of k m l.self)
+    record {
+      events : List Event;
+      counted : fetches events ≡ l.fetched;
+      within : l.fetched ≤ l.steps;
+      sofar : Sofar pc_of (plain_step k) l.budget l.stop (plain_of m l.initial.self) l.steps events (plain_of m l.self);
+    }
