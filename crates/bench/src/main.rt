@@ -3,48 +3,42 @@
 
 mod input;
 mod report;
+mod stop;
 
 use board::fresh_board;
-use image::{Image, ImageHolder};
+use image::Image;
 use input::read_image;
 use loader::load;
 use machine::Plain;
 use report::show_report;
 use std::alloc::Global;
-use std::io;
 use std::io::{BufWriter, Write};
+use stop::Stop;
 
 // The steps that a run may take, and an address that is no pc, so that nothing else stops it.
 const BUDGET: u32 = 1_000_000;
 
 const NO_STOP: u32 = 1;
 
-fn show_refusal<W: Write>(out: &mut W, number: u8) -> io::Result<()> {
-    writeln!(out, "refused {number}")
-}
-
-// Loads the image into a fresh board, runs it and reports.
-fn show_run<W: Write>(out: &mut W, heap: Global, image: &Image) -> anyhow::Result<()> {
+// Runs the firmware and reports, if neither the image nor its loading nor the run is refused.
+fn show_run<W: Write>(out: &mut W, heap: Global, file: &[u8]) -> Result<(), Stop> {
+    let image = Image::check(file)?;
     let mut board = fresh_board(heap)?;
-    if let Err(refusal) = load(&mut board, image) {
-        show_refusal(out, refusal.number())?;
-        return Ok(());
-    }
+    load(&mut board, &image)?;
     let mut machine = Plain::new(image.entry(), board);
-    match machine.run(BUDGET, NO_STOP) {
-        Ok(run) => show_report(out, run, machine, image)?,
-        Err(refusal) => show_refusal(out, refusal.number())?,
-    }
+    let run = machine.run(BUDGET, NO_STOP)?;
+    show_report(out, run, machine, &image)?;
     Ok(())
 }
 
 fn bench(rt: &HostRuntime) -> anyhow::Result<()> {
     let file = read_image(rt)?;
     let mut out = BufWriter::new(rt.alloc(), rt.stdout())?;
-    let mut holder = ImageHolder::new();
-    match holder.check(&file) {
-        Ok(()) => show_run(&mut out, rt.alloc(), holder.image())?,
-        Err(refusal) => show_refusal(&mut out, refusal.number())?,
+    match show_run(&mut out, rt.alloc(), &file) {
+        Ok(()) => {}
+        Err(Stop::Memory(error)) => return Err(error.into()),
+        Err(Stop::Output(error)) => return Err(error.into()),
+        Err(refusal) => writeln!(out, "{refusal}")?,
     }
     out.flush()?;
     Ok(())

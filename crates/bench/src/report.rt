@@ -26,11 +26,9 @@ pub(crate) fn show_report<W: Write>(
 
 // The registers that are not zero, by number.
 fn show_registers<W: Write>(out: &mut W, machine: &Plain<Board>) -> io::Result<()> {
-    for i in 0..32 {
-        if let Ok(value) = machine.register(i) {
-            if value != 0 {
-                writeln!(out, "x{i:02} {value:08x}")?;
-            }
+    for (i, value) in machine.registers().iter().enumerate() {
+        if *value != 0 {
+            writeln!(out, "x{i:02} {value:08x}")?;
         }
     }
     Ok(())
