@@ -1,3 +1,4 @@
+// Functions and no `Display`: the types are of other crates, and names and the console are bytes and no text.
 use board::Board;
 use hart::Trap;
 use image::{Image, Symbols};

@@ -69,6 +69,7 @@ impl Target {
     }
 }
 
+// Functions and no `Display`: the types are of other crates, and the text is this script's.
 fn show_word(rt: &impl Print, answer: Result<u32, Fault>) -> io::Result<()> {
     match answer {
         Ok(word) => println!(rt; "word {word:08x}"),
