@@ -14,9 +14,10 @@ use Rattle.std.proofs.lemmas.List.Edits.{map_over_more}
 use Rattle.std.proofs.lemmas.Bool.{cases_eq, eq-eqb, ne_eqb}
 use Rattle.isa.specs.Decode.{decoded}
 use Rattle.blocks.specs.declared.row.Row.{Row}
+use Rattle.blocks.specs.declared.slot.Decoded.{Decoded}
 use Rattle.blocks.specs.declared.slot.Slot.{Slot}
 use Rattle.blocks.specs.Marks.{marked}
-use Rattle.blocks.specs.Slots.{slot_of}
+use Rattle.blocks.specs.Slots.{decoded_of, slot_of}
 use Rattle.blocks.specs.Blocks.{Block, Blocks, bare, changed, filled, forgotten, filled_block, forgotten_block, emptied, flushed, sum_to, one, marks_of, held_of, fresh, word_in, kept_at, row_of, place_of, tag_of}
 use Rattle.blocks.specs.Seen.{seen, block_of, blocks_in}
 use Rattle.blocks.proofs.Bit.{marked-none, marked-set, marked-clear, ones-marks}
@@ -28,14 +29,14 @@ by-eq k i x a b p q = ⊎_elim (λ e. rw (eq-eqb k i e) (p e)) (λ n. rw (ne_eqb
 -- ---- one row
 
 -- the slot's word where it is marked
-abbrev word_at : ℕ → List Slot → ℕ → Option ℕ
-word_at m slots k = if marked m k then Some (get_or slots k (slot_of 0)).word else None
+abbrev word_at : ℕ → List Decoded → ℕ → Option ℕ
+word_at m slots k = if marked m k then Some (get_or slots k (decoded_of 0)).word else None
 
 abbrev block : ℕ → (ℕ → Option ℕ) → Block
 block t f = record { tag = t; word = f }
 
 -- a slot is filled and marked
-pub fills : (t m j : ℕ) (slots : List Slot) (s : Slot) → j < 8 → j < length slots
+pub fills : (t m j : ℕ) (slots : List Decoded) (s : Decoded) → j < 8 → j < length slots
     → seen t (bit_or m (1 * 2 ^ j % 2 ^ 8)) (set slots j s) ≡ filled_block (seen t m slots) t j s.word
 unfolding seen filled_block
 fills t m j slots s h len =
@@ -43,45 +44,52 @@ fills t m j slots s h len =
     (fun_ext
     (λ k.
     by-eq k j _ _ _
-    (λ e. rw (marked-set m j k h, eq-eqb k j e, e, get_or-set_same slots j s (slot_of 0) len))
-    (λ n. rw (marked-set m j k h, ne_eqb k j n, eq-eqb t t refl, get_or-set_other slots j k s (slot_of 0) n))))
+    (λ e. rw (marked-set m j k h, eq-eqb k j e, e, get_or-set_same slots j s (decoded_of 0) len))
+    (λ n. rw (marked-set m j k h, ne_eqb k j n, eq-eqb t t refl, get_or-set_other slots j k s (decoded_of 0) n))))
 
 -- in a row of another tag, as in an empty one
-pub fills_other : (u m : ℕ) (slots : List Slot) (t j w : ℕ) → (u ≡ t → ⊥) → filled_block (seen u m slots) t j w ≡ filled_block (seen t 0 slots) t j w
+pub fills_other : (u m : ℕ) (slots : List Decoded) (t j w : ℕ) → (u ≡ t → ⊥) → filled_block (seen u m slots) t j w ≡ filled_block (seen t 0 slots) t j w
 unfolding seen filled_block
 fills_other u m slots t j w n = ap (block t) (fun_ext (λ k. rw (ne_eqb u t n, eq-eqb t t refl, marked-none k)))
 
-pub clears : (t m j : ℕ) (slots : List Slot) → m < 256 → j < 8
+pub clears : (t m j : ℕ) (slots : List Decoded) → m < 256 → j < 8
     → seen t (bit_and m (255 - 1 * 2 ^ j % 2 ^ 8)) slots ≡ forgotten_block (seen t m slots) t j
 unfolding seen forgotten_block
 clears t m j slots mh h =
     ap (block t)
     (fun_ext (λ k. rw (eq-eqb t t refl) (by-eq k j _ _ _ (λ q. rw (marked-clear m j k mh h, eq-eqb k j q)) (λ n. rw (marked-clear m j k mh h, ne_eqb k j n)))))
 
-pub clears_other : (t m : ℕ) (slots : List Slot) (u j : ℕ) → (t ≡ u → ⊥) → forgotten_block (seen t m slots) u j ≡ seen t m slots
+pub clears_other : (t m : ℕ) (slots : List Decoded) (u j : ℕ) → (t ≡ u → ⊥) → forgotten_block (seen t m slots) u j ≡ seen t m slots
 unfolding seen forgotten_block
 clears_other t m slots u j n = ap (block t) (fun_ext (λ k. rw (ne_eqb t u n)))
 
-pub empties : (t m : ℕ) (slots : List Slot) → emptied (seen t m slots) ≡ seen t 0 slots
+pub empties : (t m : ℕ) (slots : List Decoded) → emptied (seen t m slots) ≡ seen t 0 slots
 unfolding seen emptied
 empties t m slots = ap (block t) (fun_ext (λ k. rw (marked-none k)))
 
-pub nothing : (slots : List Slot) → seen 0 0 slots ≡ bare
+pub nothing : (slots : List Decoded) → seen 0 0 slots ≡ bare
 unfolding seen
 nothing slots = ap (block 0) (fun_ext (λ k. rw (marked-none k)))
 
 -- a slot is that of its word: its form is the decoding of its word, whether a mark stands or not
-pub slot_is : (s : Slot) → s ≡ slot_of s.word
+pub slot_is : (s : Decoded) → s ≡ decoded_of s.word
 slot_is s = sym (ap (λ (q : Cosingl (decoded s.word)). record { word = s.word; form = q.0; decodes = q.1 }) (contract' s.decodes))
 
-pub finds : (t m j u : ℕ) (slots : List Slot) (d : Slot) → j < length slots → t ≡ u → bit_and (m / 2 ^ j) 1 ≡ 1
-    → Some (get_or slots j d) ≡ option_map slot_of (word_in (seen t m slots) u j)
+pub finds_word : (t m j u : ℕ) (slots : List Decoded) (d : Decoded) → j < length slots → t ≡ u → bit_and (m / 2 ^ j) 1 ≡ 1
+    → Some (slot_of (get_or slots j d).word) ≡ option_map slot_of (word_in (seen t m slots) u j)
 unfolding seen marked
-finds t m j u slots d len e h =
+finds_word t m j u slots d len e h =
     rw (eq-eqb t u e, eq-eqb (m / 2 ^ j % 2) 1 (sym (and_mask (m / 2 ^ j) 1) ∙ h))
-    (ap (λ (z : Slot). Some z) (get_or_default slots j d (slot_of 0) len ∙ slot_is _))
+    (ap (λ (z : Decoded). Some (slot_of z.word)) (get_or_default slots j d (decoded_of 0) len))
 
-pub misses : (t m j u : ℕ) (slots : List Slot) → (bit_and (m / 2 ^ j) 1 ≡ 1 → ⊥) → None ≡ option_map slot_of (word_in (seen t m slots) u j)
+pub finds : (t m j u : ℕ) (slots : List Decoded) (d : Decoded) → j < length slots → t ≡ u → bit_and (m / 2 ^ j) 1 ≡ 1
+    → Some (record { word = (get_or slots j d).word; form = (get_or slots j d).form }) ≡ option_map slot_of (word_in (seen t m slots) u j)
+finds t m j u slots d len e h =
+    let s : Decoded = get_or slots j d in
+    let whole : ◌≡◌ {A = Option Slot} (Some (record { word = s.word; form = s.form })) (Some (slot_of s.word)) = ap (λ (z : Decoded). Some (record { word = z.word; form = z.form })) (slot_is s) in
+    whole ∙ finds_word t m j u slots d len e h
+
+pub misses : (t m j u : ℕ) (slots : List Decoded) → (bit_and (m / 2 ^ j) 1 ≡ 1 → ⊥) → None ≡ option_map slot_of (word_in (seen t m slots) u j)
 unfolding seen marked
 misses t m j u slots n =
     rw (ne_eqb (m / 2 ^ j % 2) 1 (λ q. n (and_mask (m / 2 ^ j) 1 ∙ q))) (none (eqb t u))
@@ -90,15 +98,15 @@ misses t m j u slots n =
     none true = refl
     none false = refl
 
-pub misses_other : (t m j u : ℕ) (slots : List Slot) → (t ≡ u → ⊥) → None ≡ option_map slot_of (word_in (seen t m slots) u j)
+pub misses_other : (t m j u : ℕ) (slots : List Decoded) → (t ≡ u → ⊥) → None ≡ option_map slot_of (word_in (seen t m slots) u j)
 unfolding seen
 misses_other t m j u slots n = rw (ne_eqb t u n)
 
 -- the ones of a row's map are the words that it keeps
-pub counts : (t m : ℕ) (slots : List Slot) → m < 256 → ones m ≡ marks_of (seen t m slots)
+pub counts : (t m : ℕ) (slots : List Decoded) → m < 256 → ones m ≡ marks_of (seen t m slots)
 unfolding seen marks_of
 counts t m slots h =
-    ones-marks m h ∙ ap (sum_to 8) (fun_ext (λ j. counted (marked m j) (get_or slots j (slot_of 0)).word))
+    ones-marks m h ∙ ap (sum_to 8) (fun_ext (λ j. counted (marked m j) (get_or slots j (decoded_of 0)).word))
   where
     counted : (c : Bool) (w : ℕ) → (if c then 1 else 0) ≡ one (if c then Some w else None)
     counted true w = refl
@@ -125,6 +133,19 @@ puts rows i r h =
     by-eq k i _ _ _
     (λ q. rw (q, map-set block_of rows i r, get_or-set_same (map block_of rows) i (block_of r) bare (rw length-map h)))
     (λ ne. rw (map-set block_of rows i r, get_or-set_other (map block_of rows) i k (block_of r) bare ne)))
+
+-- a row that f leaves as it is
+pub same_row : (rows : List Row) (i n : ℕ) (d : Row) (f : Block → Block) → i ≡ n → i < length rows
+    → block_of (get_or rows i d) ≡ f (block_of (get_or rows i d))
+    → blocks_in rows ≡ changed (blocks_in rows) n f
+same_row rows i n d f same h e =
+    let s : Blocks = blocks_in rows in
+    let r : s i ≡ block_of (get_or rows i d) = sym (row_at rows i d h) in
+    fun_ext
+    (λ k.
+    by-eq k n (s k) (f (s k)) (s k)
+    (λ q. let p : k ≡ i = q ∙ sym same in ap s p ∙ r ∙ e ∙ ap f (sym r) ∙ ap (λ (m : ℕ). f (s m)) (sym p))
+    (λ ne. refl))
 
 changes : (s : Blocks) (i : ℕ) (f : Block → Block) → changed s i f ≡ put s i (f (s i))
 unfolding put

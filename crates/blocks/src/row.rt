@@ -6,14 +6,14 @@ ghost use Rattle.std.specs.Option.{option_map};
 ghost use Rattle.std.specs.Prelude.{◌≡◌, ◌≤◌};
 
 use crate::place::Place;
-use crate::slot::Slot;
+use crate::slot::{Decoded, Slot};
 
 // Bit j of the map marks slot j. A rule of the project asks for a map of eight bits beside eight slots, so the slots are no Options.
 #[derive(Clone, Copy)]
 pub(crate) struct Row {
     tag: u32,
     map: u8,
-    slots: [Slot; 8],
+    slots: [Decoded; 8],
 }
 
 impl Row {
@@ -24,17 +24,17 @@ impl Row {
         Row {
             tag: 0,
             map: 0,
-            slots: [Slot::of(0); 8],
+            slots: [Decoded::of(0); 8],
         }
     }
 
     // The slot at a place, if it is marked and the row has the place's tag.
-    #[tactic(auto, using(crate::proofs::Rows::finds, crate::proofs::Rows::misses, crate::proofs::Rows::misses_other))]
+    #[tactic(auto, using(crate::proofs::Rows::finds_word, crate::proofs::Rows::misses, crate::proofs::Rows::misses_other))]
     pub(crate) fn slot_at(&self, place: Place) -> Option<Slot>
         ensures { result ≡ option_map slot_of (word_in (block_of self.now) place.tag place.slot) }
     {
         if self.tag == place.tag && (self.map >> place.slot) & 1 == 1 {
-            Some(self.slots[place.slot])
+            Some(self.slots[place.slot].slot())
         } else {
             None
         }
@@ -42,7 +42,7 @@ impl Row {
 
     // Fills and marks the slot at a place; a row of another tag is emptied first.
     #[tactic(auto, using(crate::proofs::Rows::fills, crate::proofs::Rows::fills_other))]
-    pub(crate) fn fill(&mut self, place: Place, slot: Slot)
+    pub(crate) fn fill(&mut self, place: Place, slot: Decoded)
         ensures { block_of self.new ≡ filled_block (block_of self.old) place.tag place.slot slot.word }
     {
         if self.tag != place.tag {

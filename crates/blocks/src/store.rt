@@ -8,7 +8,7 @@ ghost use Rattle.std.specs.Prelude.{◌≡◌};
 
 use crate::place::Place;
 use crate::row::Row;
-use crate::slot::Slot;
+use crate::slot::{Decoded, Slot};
 use isa::instruction::Instruction;
 
 // No `Model`, and none of a row: its value would be a function of the slot, and a model's value needs a code, which functions lack.
@@ -42,7 +42,7 @@ impl BlockStore {
         ensures blocks { blocks_of self.new ≡ filled (blocks_of self.old) address word }
     {
         let place = Place::of(address);
-        let slot = Slot::of(word);
+        let slot = Decoded::of(word);
         self.rows[place.row].fill(place, slot);
         slot.form
     }

@@ -67,9 +67,13 @@ abbrev pub store_at : Bool → Holding → ℕ → Width → ℕ → Answer (Res
 store_at true m a n v = write_at m a n v
 store_at false m a n v = record { value = read_only (place m a n); next = m }
 
--- a memory under a device's number, which takes stores or not; fetches and loads read it
+-- a memory under a device's number, with stores of its own; fetches and loads read it
+abbrev pub memory_of : Device → (Holding → ℕ → Width → ℕ → Answer (Result (Unit {0}) Cause) Holding) → Kind
+memory_of d s = still Holding (λ m a. faulted d a (read_at m a Word)) (λ m a n. faulted d a (read_at m a n)) (λ m a n v. answered d a (s m a n v)) has_word
+
+-- one that takes stores or not
 abbrev pub memory : Device → Bool → Kind
-memory d w = still Holding (λ m a. faulted d a (read_at m a Word)) (λ m a n. faulted d a (read_at m a n)) (λ m a n v. answered d a (store_at w m a n v)) has_word
+memory d w = memory_of d (store_at w)
 
 abbrev pub ram : Kind
 ram = memory RamDevice true

@@ -8,10 +8,13 @@ use Rattle.bus.specs.declared.access.Device.TheVariants.{Ram, Rom}
 use Rattle.bus.specs.declared.access.Width.{Width}
 use Rattle.bus.specs.declared.access.Width.TheVariants.{Word}
 use Rattle.bus.specs.Numbers.{size}
-use Rattle.bus.specs.Kind.{Rules, word_of, part, patch}
+use Rattle.bus.specs.Kind.{Rules, Answer, word_of, part, patch}
 use Rattle.devices.specs.Device.{faulted}
-use Rattle.devices.specs.Memory.{Holding, served, place, has_word, read, read_at, read_only, store_at, memory, ram, rom}
+use Rattle.devices.specs.Memory.{Holding, served, place, has_word, read, read_at, read_only, store_at, memory_of, memory, ram, rom}
 use Rattle.devices.specs.Accesses.{stored, wrote-place, read_out, part_of, patch-of, word_below, place_ok, served-given, word_at, inside, offset, disjoint}
+
+ok-inj : {E : Type 0} (x y : ℕ) → ◌≡◌ {A = Result ℕ E} (Ok x) (Ok y) → x ≡ y
+ok-inj x y e = cc
 
 module _ (d : Device) (m : Holding) where
   word-aligned : (x : ℕ) → has_word m x ≡ true → x % 4 ≡ 0
@@ -41,7 +44,7 @@ module _ (d : Device) (m : Holding) where
         let h = place_ok m.base (served m) (word_of a) p.0 Word p.1 in
         let l = served-given m in
         let e : j ≡ p.0 + a % 4 = omega (arith, k.0, h.0) in
-        let g : read m.bytes p.0 Word ≡ w = cc (rw p.1 at f) in
+        let g : read m.bytes p.0 Word ≡ w = ok-inj _ _ (rw p.1 at f) in
         rw (wrote-place m j n v (word_of a) Word) (rw p.1 (ap Ok (rw e (patch-of m.bytes p.0 (a % 4) n v (omega (arith, h.1)) (omega arith) (offset a n k.2) ∙ ap (λ u. patch u (a % 4) n v) g))))
 
     store_keeps : (x : ℕ) → has_word m x ≡ true → word_of a ≢ x → (r : Result ℕ Cause) → place m a n ≡ r → faulted d x (read_at (stored m n v r).next x Word) ≡ faulted d x (read_at m x Word)
@@ -71,25 +74,39 @@ module _ (d : Device) (m : Holding) where
     at_keeps true x s ne = store_keeps x s ne (place m a n) refl
     at_keeps false x s ne = refl
 
--- every memory keeps the rules
-pub memory-rules : (d : Device) (w : Bool) → Rules (memory d w)
-memory-rules d w = record {
+-- a memory keeps the rules if its stores do
+pub memory_of-rules : (d : Device) (s : Holding → ℕ → Width → ℕ → Answer (Result (Unit {0}) Cause) Holding)
+    → ((m : Holding) (a : ℕ) (n : Width) (v : ℕ) → is_ok (faulted d a (s m a n v).value) ≡ false → (s m a n v).next ≡ m)
+    → ((m : Holding) (a : ℕ) (n : Width) (v x : ℕ) → has_word (s m a n v).next x ≡ has_word m x)
+    → ((m : Holding) (a : ℕ) (n : Width) (v w : ℕ) → has_word m (word_of a) ≡ true → is_ok (faulted d a (s m a n v).value) ≡ true → faulted d (word_of a) (read_at m (word_of a) Word) ≡ Ok w → faulted d (word_of a) (read_at (s m a n v).next (word_of a) Word) ≡ Ok (patch w (a % 4) n v))
+    → ((m : Holding) (a : ℕ) (n : Width) (v x : ℕ) → has_word m x ≡ true → word_of a ≢ x → faulted d x (read_at (s m a n v).next x Word) ≡ faulted d x (read_at m x Word))
+    → Rules (memory_of d s)
+memory_of-rules d s refused steady replaces keeps = record {
   refused_load_changes_nothing = λ m a n e. refl;
-  refused_store_changes_nothing = λ m a n v. at-refused d m a n v w;
+  refused_store_changes_nothing = refused;
   feed_without_receiver_changes_nothing = λ m b e. refl;
   load_keeps_steady = λ m a n x. refl;
-  store_keeps_steady = λ m a n v. at-steady d m a n v w;
+  store_keeps_steady = steady;
   tick_keeps_steady = λ m x. refl;
   feed_keeps_steady = λ m b x. refl;
   steady_is_aligned = word-aligned d;
   steady_word_is_fetched = word-fetched d;
   load_answers_its_bytes = word-loaded d;
-  store_replaces_its_bytes = λ m a n v. at-replaces d m a n v w;
-  store_keeps_other_words = λ m a n v. at_keeps d m a n v w;
+  store_replaces_its_bytes = replaces;
+  store_keeps_other_words = keeps;
   load_keeps_words = λ m a n x s. refl;
   tick_keeps_words = λ m x s. refl;
   feed_keeps_words = λ m b x s. refl;
 }
+
+-- and both stores do
+pub memory-rules : (d : Device) (w : Bool) → Rules (memory d w)
+memory-rules d w =
+    memory_of-rules d (store_at w)
+    (λ m a n v. at-refused d m a n v w)
+    (λ m a n v. at-steady d m a n v w)
+    (λ m a n v. at-replaces d m a n v w)
+    (λ m a n v. at_keeps d m a n v w)
 
 pub ram-rules : Rules ram
 ram-rules = memory-rules Ram true

@@ -1,7 +1,7 @@
 mod port;
 mod storage;
 
-ghost use Rattle.std.specs.Prelude.{Bool, false, true};
+ghost use Rattle.std.specs.Prelude.{◌≡◌, ◌-◌, ◌*◌, ◌/◌, ◌^◌, min, Bool, false, true, vec_len};
 ghost use Rattle.bus.specs.declared.access.Device.{Device};
 ghost use Rattle.bus.specs.declared.access.Device.TheVariants.{Ram as RamDevice, Rom as RomDevice};
 ghost use Rattle.devices.specs.Memory.{Holding, holding};
@@ -48,11 +48,13 @@ impl Access for ReadOnly {
     const WRITABLE: bool = false;
 }
 
-// Bytes from a base address on. Whole words are served, none past the end of the address space.
+// Bytes from a base address on. The first `len` are served: whole words, none past the end of the address space. It is kept and not
+// worked out, since each access asks for it.
 #[derive(Drop)]
 pub struct Memory<A: Access> {
     base: u32,
     bytes: Vec<u8>,
+    len: usize,
     access: PhantomData<A>,
 }
 
@@ -66,4 +68,6 @@ impl<A: Access> Model for Memory<A> {
     ghost Value = { Holding };
 
     ghost view = { λ m. holding m.base m.bytes.items };
+
+    ghost invariant = { λ m. m.len ≡ min (vec_len m.bytes / 4 * 4) (2 ^ 32 - m.base) };
 }

@@ -1,5 +1,5 @@
 -- What a hart holds.
-use Rattle.std.specs.Prelude.{ℕ, ◌+◌, ◌%◌, ◌^◌, if◌then◌else◌, List, replicate, Some, None, Ok, Err, Option, Result, ◌==◌, nat_lt, slice_index, slice_set}
+use Rattle.std.specs.Prelude.{◌≡◌, ℕ, ◌+◌, ◌%◌, ◌^◌, if◌then◌else◌, List, replicate, Some, None, Ok, Err, Option, Result, ◌==◌, nat_lt, slice_index, slice_set}
 use Rattle.bus.specs.declared.access.Fault.{Fault}
 use Rattle.bus.specs.Kind.{word_of}
 use Rattle.bus.specs.Numbers.{FaultNumbers, fault_numbers}
@@ -32,6 +32,10 @@ pub record State : Type 0 where
   pub x : List ℕ
   pub control : Control
   pub trap : Option TrapNumbers
+
+-- what holds of every hart: x0 is 0, and pc the address of a word
+abbrev pub Invariant : State → Type 0
+Invariant s = (slice_index s.x 0 ≡ 0) × (s.pc % 4 ≡ 0)
 
 -- a fresh hart's state: the entry with its low two bits dropped, all else 0, and no trap
 abbrev pub fresh : ℕ → State

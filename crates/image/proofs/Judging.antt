@@ -76,7 +76,7 @@ decides-kind s = (
   λ r. let p = r.executable in let q = r.risc_v in let v = r.version in let f = r.no_flags in grind (arith, nat_tests),
 )
 
-decides-table : (s : List ℕ) → Decides (table_fits s) (RightTable s)
+pub decides-table : (s : List ℕ) → Decides (table_fits s) (RightTable s)
 decides-table s = (
   λ e. record { entry_size = grind (arith, nat_tests); not_empty = grind (arith, nat_tests); not_long = grind (arith, nat_tests); inside = grind (arith, nat_tests) },
   λ r. let p = r.entry_size in let q = r.not_empty in let v = r.not_long in let f = r.inside in grind (arith, nat_tests),

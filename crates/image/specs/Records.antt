@@ -6,9 +6,17 @@ pub record Records : Type 0 where
   pub count : ℕ
   pub at : ℕ → Record
 
+-- the record that covers nothing
+abbrev pub no_record : Record
+no_record = record { start = 0; size = 0 }
+
+-- record i; past the table the one that covers nothing
+abbrev pub record_at : Records → ℕ → Record
+record_at t i = if nat_lt i t.count then t.at i else no_record
+
 -- record i; past the table there is none
-abbrev pub record_at : Records → ℕ → Option Record
-record_at t i = if nat_lt i t.count then Some (t.at i) else None
+abbrev pub record_if_any : Records → ℕ → Option Record
+record_if_any t i = if nat_lt i t.count then Some (t.at i) else None
 
 abbrev pub holds : Record → ℕ → Bool
 holds x a = nat_le x.start a && nat_lt a (x.start + x.size)

@@ -28,7 +28,7 @@ impl<'a> ImageHolder<'a> {
         ensures { result.image.bytes.now ≡ built_in }
     {
         ImageHolder {
-            image: Image::check(BUILT_IN).unwrap(),
+            image: Image::new(BUILT_IN),
         }
     }
 

@@ -1,5 +1,5 @@
 ghost use Rattle.std.specs.Prelude.{◌≡◌, ◌+◌, ◌<◌};
-ghost use Rattle.image.specs.Records.{Records, record_at, holds, Finds, FindsIn};
+ghost use Rattle.image.specs.Records.{Records, record_at, record_if_any, holds, Finds, FindsIn};
 
 // A range of addresses. No `Range<u32>`: its end could not be 2^32.
 #[derive(Clone, Copy, PartialEq, Eq, Debug)]
@@ -9,6 +9,9 @@ pub struct Record {
 }
 
 impl Record {
+    // The record that holds no address.
+    pub const NONE: Record = Record { start: 0, size: 0 };
+
     // Whether an address lies in the record.
     pub fn holds(&self, a: u32) -> bool
         ensures { result ≡ holds self.now a }
@@ -17,15 +20,26 @@ impl Record {
     }
 }
 
-// A table whose records have a start and a size. An index past its end gives no record.
+// A table whose records have a start and a size. An index past its end gives the record that holds no address.
 pub trait RecordTable {
     ghost records: { Self → Records };
 
     fn len(&self) -> usize
         ensures { result ≡ (records self.now).count };
 
-    fn record(&self, i: usize) -> Option<Record>
+    fn record(&self, i: usize) -> Record
         ensures { result ≡ record_at (records self.now) i };
+
+    // Record `i`; past the end there is none.
+    fn get(&self, i: usize) -> Option<Record>
+        ensures { result ≡ record_if_any (records self.now) i }
+    {
+        if i < self.len() {
+            Some(self.record(i))
+        } else {
+            None
+        }
+    }
 }
 
 // The better of the best so far and record `i`.
@@ -34,10 +48,10 @@ fn better<T: RecordTable>(table: &T, a: u32, best: Option<usize>, i: usize) -> O
     requires finds_in { FindsIn (T.records table.now) i a best }
     ensures { FindsIn (T.records table.now) (i + 1) a result }
 {
-    let Some(record) = table.record(i).filter(|r| r.holds(a)) else {
+    let Some(record) = table.get(i).filter(|r| r.holds(a)) else {
         return best;
     };
-    match best.and_then(|j| table.record(j)) {
+    match best.and_then(|j| table.get(j)) {
         Some(other) if record.start <= other.start => best,
         _ => Some(i),
     }

@@ -28,16 +28,18 @@ impl<'a> RecordTable for Image<'a> {
         self.segment_count()
     }
 
-    fn record(&self, i: usize) -> Option<Record> {
-        let header = self.header(i)?;
+    fn record(&self, i: usize) -> Record {
+        let Some(header) = self.header(i) else {
+            return Record::NONE;
+        };
         let size = if header.kind == PT_LOAD {
             header.memsz
         } else {
             0
         };
-        Some(Record {
+        Record {
             start: header.vaddr,
             size,
-        })
+        }
     }
 }

@@ -62,16 +62,18 @@ impl<'a> RecordTable for Symbols<'a> {
         self.entries.len() / SYMENTSIZE
     }
 
-    fn record(&self, i: usize) -> Option<Record> {
-        let entry = self.entry(i)?;
+    fn record(&self, i: usize) -> Record {
+        let Some(entry) = self.entry(i) else {
+            return Record::NONE;
+        };
         let size = if is_function_info(entry.info) {
             entry.size
         } else {
             0
         };
-        Some(Record {
+        Record {
             start: entry.value,
             size,
-        })
+        }
     }
 }

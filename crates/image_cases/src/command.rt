@@ -45,7 +45,10 @@ impl Command {
         let mut words = line.split_whitespace();
         let verb = words.next()?;
         let first = words.next().map(number).transpose().ok()?;
-        let second = words.next().map(number).transpose().ok()?;
+        let second = match first {
+            Some(_) => words.next().map(number).transpose().ok()?,
+            None => None,
+        };
         match (verb, first, second) {
             ("builtin", None, None) => Some(Command::Edit(Edit::BuiltIn)),
             ("keep", None, None) => Some(Command::Edit(Edit::Keep)),

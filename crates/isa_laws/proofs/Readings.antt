@@ -26,9 +26,14 @@ module _ (a : ℕ) (h : a < 2 ^ 32) where
   pub wrap : (t : ℕ) × (up (signed a) + t * 2 ^ 32 ≡ down (signed a) + a)
   wrap = ⊎_elim (λ lt. rw (to_z_pos w32 a lt) (0, omega arith)) (λ ge. rw (high a ge) (1, omega arith)) (cases_lt a (2 ^ 31))
 
+-- products of a negated number
 pub neg-pos : (q b : ℕ) → neg_ℤ (pos q) *ℤ pos b ≡ neg_ℤ (pos (q * b))
 neg-pos zero b = rw zero-mul
 neg-pos (suc q) b = refl
+
+pub neg-neg : (q b : ℕ) → neg_ℤ (pos q) *ℤ negsuc b ≡ pos (q * suc b)
+neg-neg zero b = rw zero-mul
+neg-neg (suc q) b = refl
 
 -- the size of a negated number
 pub mag-neg : (n : ℕ) → mag (neg_ℤ (pos n)) ≤ n

@@ -24,7 +24,7 @@ module _ {M : Type 0} where
   plain s m = record { hart = s; meaning = m }
 
   -- what a machine holds, by the meaning of its bus
-  abbrev pub plain_of : {B : Type 0} → (B → M) → Plain B → PlainState M
+  abbrev pub plain_of : {B : Type 0} {g : _} → (B → M) → Plain B g → PlainState M
   plain_of meaning p = plain p.system.hart (meaning p.system.bus)
 
   -- a machine with a fresh hart

@@ -1,11 +1,10 @@
 // The plain machine: every word is fetched.
 ghost use Rattle.std.specs.Prelude.{◌≡◌, ◌%◌, ◌≤◌, Ok, slice_index};
 ghost use Rattle.hart.specs.Refusals.{register_told};
-ghost use Rattle.hart.specs.State.{register_answer, trap_numbers};
+ghost use Rattle.hart.specs.State.{Invariant, register_answer, trap_numbers};
 ghost use Rattle.isa.specs.Alu.{flag};
 ghost use Rattle.machine.specs.Events.{fetches};
 ghost use Rattle.machine.specs.Numbers.{run_numbers, run_told, told};
-ghost use Rattle.machine.specs.PlainSteps.{fetched_in, pc_of, plain_feed, plain_flush, plain_fresh, plain_instruction, plain_of, plain_poke, plain_run, plain_step};
 ghost use Rattle.machine.specs.Runs.{run, run_of};
 
 use crate::answer::{End, Fetched, Refusal, Run};
@@ -18,9 +17,12 @@ use isa::decode::decode;
 #[derive(Drop)]
 pub struct Plain<B: Bus> {
     system: System<B>,
+    ghost invariant: { Invariant system.hart },
 }
 
 impl<B: Bus> Plain<B> {
+    ghost use Rattle.machine.specs.PlainSteps.{fetched_in, pc_of, plain_feed, plain_flush, plain_fresh, plain_instruction, plain_of, plain_poke, plain_run, plain_step};
+
     // A machine whose hart starts at `entry`, low two bits dropped.
     pub fn new(entry: u32, bus: B) -> Self
         ensures fresh { plain_of B.meaning result ≡ plain_fresh entry (B.meaning bus) }
@@ -68,7 +70,8 @@ impl<B: Bus> Plain<B> {
     {
         let mut fetched = 0;
         for steps in 0..budget {
-            if self.system.hart.pc() == stop {
+            let stopped = self.system.hart.pc() == stop;
+            if stopped {
                 return Run {
                     end: End::Stopped,
                     steps,

@@ -1,7 +1,7 @@
 // A hart on its bus: what every machine does, however the words come.
 ghost use Rattle.bus.specs.Numbers.{numbered};
 ghost use Rattle.hart.specs.Execute.{begun};
-ghost use Rattle.hart.specs.State.{fresh};
+ghost use Rattle.hart.specs.State.{Invariant, fresh};
 ghost use Rattle.hart.specs.Traps.{latched};
 ghost use Rattle.machine.specs.Acts.{act, acted, effect_of, fed, poked};
 ghost use Rattle.machine.specs.Numbers.{told};
@@ -52,13 +52,15 @@ impl<B: Bus> System<B> {
     pub(crate) fn interrupted(&mut self) -> bool
         ensures hart { latched (B.kind.lines (B.meaning self.old.bus)) self.old.hart ≡ (result, self.new.hart) }
         ensures bus { B.meaning self.new.bus ≡ B.meaning self.old.bus }
+        ensures invariant { Invariant self.new.hart }
     {
         self.hart.latch(self.bus.lines())
     }
 
     // Executes an instruction, its access of the bus included. The word stands beside it as in `Hart::begin`.
     pub(crate) fn perform(&mut self, word: u32, i: Instruction) -> Effect
-        ensures { act B.kind (begun word i self.old.hart) (B.meaning self.old.bus) ≡ acted self.new.hart (B.meaning self.new.bus) result }
+        ensures state { act B.kind (begun word i self.old.hart) (B.meaning self.old.bus) ≡ acted self.new.hart (B.meaning self.new.bus) result }
+        ensures invariant { Invariant self.new.hart }
     {
         match self.hart.begin(word, i) {
             Request::Nothing => Effect::Nothing,

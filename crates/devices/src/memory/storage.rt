@@ -14,9 +14,12 @@ impl<A: Access> Memory<A> {
     pub fn new(base: u32, bytes: Vec<u8>) -> Self
         ensures { result ≡ holding (word_of base) bytes.items }
     {
+        let base = base / 4 * 4;
+        let len = (bytes.len() / 4 * 4).min(0x1_0000_0000 - base as usize);
         Memory {
-            base: base / 4 * 4,
+            base,
             bytes,
+            len,
             access: PhantomData,
         }
     }
@@ -28,6 +31,7 @@ impl<A: Access> Memory<A> {
         let Memory {
             base: _,
             bytes,
+            len: _,
             access: _,
         } = self;
         bytes
@@ -40,9 +44,8 @@ impl<A: Access> Memory<A> {
         if !width.divides(address) {
             return Err(fault(A::DEVICE, address, Cause::Malformed));
         }
-        let served = (self.bytes.len() / 4 * 4).min(0x1_0000_0000 - self.base as usize);
         let at = address.wrapping_sub(self.base) as usize;
-        if at + width.bytes() as usize > served {
+        if at + width.bytes() as usize > self.len {
             return Err(fault(A::DEVICE, address, Cause::Unmapped));
         }
         Ok(at)

@@ -1,7 +1,7 @@
 // What each instruction does to a hart.
 ghost use Rattle.bus.specs.Numbers.{fault_numbers, numbered};
 ghost use Rattle.hart.specs.Execute.{asked, asked_load, asked_store, asks, begun, branched, combined, csr_done, executed, goes, legal_if, linked, loaded, stored, unfetched, writes_always};
-ghost use Rattle.hart.specs.State.{next, plus, put, read};
+ghost use Rattle.hart.specs.State.{Invariant, next, plus, put, read};
 ghost use Rattle.hart.specs.Traps.{returned};
 ghost use Rattle.std.specs.Prelude.{◌≡◌, is_ok};
 
@@ -201,21 +201,26 @@ impl Hart {
     // The word stands beside its instruction: a pair would say no more, or ask of callers that the one is decoded from the other.
     #[tactic(auto, unfolding(crate::specs::Execute::begun))]
     pub fn begin(&mut self, word: u32, i: Instruction) -> Request
-        ensures { begun word i self.old ≡ (result, self.new) }
+        ensures state { begun word i self.old ≡ (result, self.new) }
+        ensures invariant { Invariant self.new }
     {
-        match self.execute(word, i) {
+        let request = match self.execute(word, i) {
             Ok(request) => request,
             Err(e) => {
                 self.raise(e, None);
                 Request::Nothing
             }
-        }
+        };
+        // does nothing, here and below: a proof knows a hart's invariant only where a field is used
+        let _ = &self.pc;
+        request
     }
 
     // Ends a load with what the bus answered. It takes the parts of `Request::Load`: a struct of them would add a name and no fact.
     #[tactic(auto, unfolding(crate::specs::Execute::loaded))]
     pub fn end_load(&mut self, op: Load, rd: u8, address: u32, answer: Result<u32, Fault>)
-        ensures { self.new ≡ loaded op rd address (numbered answer) self.old }
+        ensures state { self.new ≡ loaded op rd address (numbered answer) self.old }
+        ensures invariant { Invariant self.new }
     {
         match answer {
             Ok(came) => {
@@ -224,24 +229,29 @@ impl Hart {
             }
             Err(fault) => self.raise(Exception::LoadFault(address), Some(fault)),
         }
+        let _ = &self.pc;
     }
 
     // Ends a store with what the bus answered.
     #[tactic(auto, unfolding(crate::specs::Execute::stored))]
     pub fn end_store(&mut self, address: u32, answer: Result<(), Fault>)
-        ensures { self.new ≡ stored address (numbered answer) self.old }
+        ensures state { self.new ≡ stored address (numbered answer) self.old }
+        ensures invariant { Invariant self.new }
     {
         match answer {
             Ok(()) => self.advance(),
             Err(fault) => self.raise(Exception::StoreFault(address), Some(fault)),
         }
+        let _ = &self.pc;
     }
 
     // Takes the trap of a fetch that the bus refused.
     #[tactic(auto, unfolding(crate::specs::Execute::unfetched))]
     pub fn fail_fetch(&mut self, fault: Fault)
-        ensures { self.new ≡ unfetched (fault_numbers fault) self.old }
+        ensures state { self.new ≡ unfetched (fault_numbers fault) self.old }
+        ensures invariant { Invariant self.new }
     {
         self.raise(Exception::FetchFault, Some(fault));
+        let _ = &self.pc;
     }
 }

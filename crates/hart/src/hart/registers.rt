@@ -1,7 +1,7 @@
 // Making a hart, its registers, and the questions for them.
 ghost use Rattle.std.specs.Prelude.{◌≡◌, ◌%◌, Ok, slice_index};
 ghost use Rattle.hart.specs.Refusals.{register_told};
-ghost use Rattle.hart.specs.State.{fresh, go_to, next, put, read, register_answer, trap_numbers};
+ghost use Rattle.hart.specs.State.{Invariant, fresh, go_to, next, put, read, register_answer, trap_numbers};
 
 use crate::control::Control;
 use crate::hart::{Hart, Trap};
@@ -10,7 +10,8 @@ use crate::refusal::RegisterRefusal;
 impl Hart {
     // A hart that starts at `entry`, whose low two bits are dropped.
     pub fn new(entry: u32) -> Self
-        ensures { result ≡ fresh entry }
+        ensures state { result ≡ fresh entry }
+        ensures invariant { Invariant result }
     {
         Hart {
             pc: entry / 4 * 4,
@@ -23,6 +24,7 @@ impl Hart {
     pub fn pc(&self) -> u32
         ensures value { result ≡ self.now.pc }
         ensures aligned { result % 4 ≡ 0 }
+        ensures invariant { Invariant self.now }
     {
         self.pc
     }
@@ -30,6 +32,7 @@ impl Hart {
     pub fn register(&self, i: u32) -> Result<u32, RegisterRefusal>
         ensures answer { register_told result ≡ register_answer i self.now }
         ensures zero { i ≡ 0 → register_told result ≡ Ok 0 }
+        ensures invariant { Invariant self.now }
     {
         self.x
             .get(i as usize)
@@ -41,13 +44,15 @@ impl Hart {
     pub fn registers(&self) -> [u32; 32]
         ensures value { result ≡ self.now.x }
         ensures zero { slice_index result 0 ≡ 0 }
+        ensures invariant { Invariant self.now }
     {
         self.x
     }
 
     // The record of the last trap, if there was one.
     pub fn trap(&self) -> Option<Trap>
-        ensures { trap_numbers result ≡ self.now.trap }
+        ensures value { trap_numbers result ≡ self.now.trap }
+        ensures invariant { Invariant self.now }
     {
         self.trap
     }

@@ -1,7 +1,7 @@
 // Traps, interrupts and the return from them.
 ghost use Rattle.hart.specs.Interrupts.{interrupt_number};
 ghost use Rattle.hart.specs.Traps.{interrupt, interrupted, latched, mip_of, raised, returned, trapped};
-ghost use Rattle.hart.specs.State.{faults_of};
+ghost use Rattle.hart.specs.State.{Invariant, faults_of};
 ghost use Rattle.std.specs.Option.{option_map};
 ghost use Rattle.std.specs.Prelude.{◌≡◌};
 
@@ -83,7 +83,8 @@ impl Hart {
     // The start of a step: reads the lines into mip, and takes an interrupt if one is due.
     #[tactic(auto, unfolding(crate::specs::Traps::latched))]
     pub fn latch(&mut self, lines: Lines) -> bool
-        ensures { latched lines self.old ≡ (result, self.new) }
+        ensures state { latched lines self.old ≡ (result, self.new) }
+        ensures invariant { Invariant self.new }
     {
         let pending = mip(lines);
         self.control.pending = pending;

@@ -24,6 +24,15 @@ impl<'a> Image<'a> {
         Ok(Image { bytes, headers })
     }
 
+    // The image that a file is, where that is known.
+    pub(crate) fn new(bytes: &'a [u8]) -> Self
+        requires { verdict bytes.now ≡ 0 }
+        ensures { result.bytes.now ≡ bytes.now }
+    {
+        let headers = File { bytes }.program_headers().unwrap();
+        Image { bytes, headers }
+    }
+
     // The file, of which there is at least a whole header.
     pub fn bytes(&self) -> &'a [u8]
         ensures same { result.now ≡ self.now.bytes.now }

@@ -9,4 +9,4 @@ invariant_of-result c =
     let s = c.args.bytes.now in
     let e : verdict s ≡ 0 = search rules in
     let w = (judged s).taken e in
-    record { checked = e; sized = w.size.long_enough; table = search rules; parts = λ k h. (decides_fits (length s) (header_at s k)).1 (w.segments k h) }
+    record { checked = e; sized = w.size.long_enough; table = w.table.inside; rows = search rules; parts = λ k h. (decides_fits (length s) (header_at s k)).1 (w.segments k h) }
